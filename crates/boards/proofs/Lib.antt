@@ -1,0 +1,4 @@
+pub mod Fresh
+pub mod Counts
+pub mod InTurn
+pub mod Last

@@ -1,0 +1,11 @@
+pub mod Turns
+pub mod Facts
+pub mod One
+pub mod First
+pub mod Second
+pub mod Rest
+pub mod Sound
+pub mod Ranges
+pub mod Pairs
+pub mod Moves
+pub mod Order

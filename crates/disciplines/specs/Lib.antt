@@ -1,0 +1,10 @@
+pub mod Sets
+pub mod Rows
+pub mod Table
+pub mod Contest
+pub mod Plain
+pub mod FourLine
+pub mod Answers
+pub mod Runs
+pub mod Words
+pub mod Laws

@@ -1,0 +1,2 @@
+mod Picking
+mod Handing

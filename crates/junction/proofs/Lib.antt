@@ -1,0 +1,11 @@
+pub mod Both
+pub mod ByCall
+pub mod Touch
+pub mod Agree
+pub mod Tally
+pub mod Bounds
+pub mod Answered
+pub mod Others
+pub mod Fresh
+pub mod Whole
+pub mod Taken

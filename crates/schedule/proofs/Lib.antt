@@ -1,0 +1,4 @@
+pub mod Unknown
+pub mod Told
+pub mod Stages
+pub mod Back

@@ -1,0 +1,5 @@
+pub mod Comes
+pub mod TurnLine
+pub mod Steps
+pub mod Two
+pub mod Runs
