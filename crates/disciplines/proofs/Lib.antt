@@ -17,3 +17,4 @@ pub mod PlainContest
 pub mod PlainMoves
 pub mod PlainRanges
 pub mod Four
+pub mod Unread

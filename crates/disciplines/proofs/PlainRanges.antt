@@ -19,6 +19,7 @@ use Rattle.disciplines.proofs.ContestRuns.{facts}
 use Rattle.disciplines.proofs.LinesApart.{plain-lines}
 use Rattle.disciplines.proofs.PlainContest.{Place, seen, plain-contest}
 use Rattle.disciplines.proofs.Ranges.{Ranged, ranged, contest-reads, contest-settles, numbered-read}
+use Rattle.disciplines.proofs.Unread.{plain-unread}
 
 -- Only the contest reads.
 reads : (v : PlainPlace) (N : ℕ) (s : Record) (k : ℕ) (y : Flag) → label v ≡ s .place → Ranged N k s → looks v s k ≡ Some y → y .station < N
@@ -46,4 +47,5 @@ plain-range = record {
       numbered-read plain N _ x (plain-lines .looks N p s k) e
       (reads (view (s .place)) N s k x at (ranged plain 37 Place plain-contest N name few es p k) e);
   settles = λ N p s k high x v s′ lt e. claim-number N p x lt (settles (view (s .place)) N p s k high x v s′ e);
+  unread = λ N p s k high e. plain-unread (view (s .place)) N p s k high e;
 }

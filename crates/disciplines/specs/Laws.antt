@@ -1,7 +1,7 @@
 -- What the interface asks of every discipline, and of a fair one.
 use mathlib.Core.Path.{_≡_}
 use mathlib.Core.Logic.{_≢_}
-use mathlib.Core.Bool.{Bool}
+use mathlib.Core.Bool.{Bool, true}
 use mathlib.Core.List.{List}
 use Prim.Native.Nat.{ℕ, _<_, _≤_, _*_}
 use Rattle.std.specs.declared.option.Option.{Option}
@@ -12,7 +12,7 @@ use Rattle.disciplines.specs.declared.lines.Flag.{Flag}
 use Rattle.disciplines.specs.declared.go.Go.the-variants.{Settles}
 use Rattle.disciplines.specs.Rows.{merge-place, flag}
 use Rattle.disciplines.specs.Table.{Table}
-use Rattle.disciplines.specs.Runs.{Event, run, limit, most-stations}
+use Rattle.disciplines.specs.Runs.{Event, run, refuses, limit, most-stations}
 use Rattle.disciplines.specs.Words.{Holds, Busy, CanMove, Counted, Ahead}
 
 -- A line that a go of one of N stations reads is on the board, where its station is there.
@@ -49,3 +49,5 @@ pub record In-range (t : Table) (again : ℕ → ℕ) : Type 0 where
   pub places : (N name : ℕ) (es : List Event) (p : ℕ) → N ≤ most-stations → again (run t N name es .own p .rec .place) ≡ run t N name es .own p .rec .place
   pub reads : (N name : ℕ) (es : List Event) (p k : ℕ) (x : Flag) → N ≤ most-stations → p < N → t .looks N p (run t N name es .own p .rec) k ≡ Some x → (l : ℕ) × (t .number N x ≡ Some l)
   pub settles : (N p : ℕ) (s : Record) (k : ℕ) (high : Bool) (x : Part) (v : Bool) (s′ : Record) → p < N → t .goes N p s k high ≡ Settles x v s′ → (l : ℕ) × (t .number N (flag p x) ≡ Some l)
+  -- a go that is refused reads no line
+  pub unread : (N p : ℕ) (s : Record) (k : ℕ) (high : Bool) → refuses (t .goes N p s k high) ≡ true → t .looks N p s k ≡ None

@@ -146,6 +146,15 @@ settles-some MustLeave = false
 settles-some (Moves s) = false
 settles-some (Settles y v s) = true
 
+-- Whether a go that would do this is refused.
+abbrev pub refuses : Go → Bool
+refuses Idle = false
+refuses Waits = false
+refuses WrongPick = true
+refuses MustLeave = true
+refuses (Moves s) = false
+refuses (Settles y v s) = false
+
 -- Whether a stir at that place loosens the line: all lines of a station that has failed, else the one that the next go settles.
 abbrev pub stirs : ℕ → Go → Part → Bool
 stirs place g x = cond (eqb place failed-place) true (settles x g)

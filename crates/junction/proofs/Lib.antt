@@ -6,6 +6,7 @@ pub mod Tally
 pub mod Bounds
 pub mod Answered
 pub mod Others
+pub mod Refused
 pub mod Fresh
 pub mod Whole
 pub mod Taken

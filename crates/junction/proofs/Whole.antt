@@ -31,6 +31,7 @@ use Rattle.junction.proofs.Tally.{Told, call-told}
 use Rattle.junction.proofs.Bounds.{small}
 use Rattle.junction.proofs.Answered.{call-answered}
 use Rattle.junction.proofs.Others.{others}
+use Rattle.junction.proofs.Refused.{call-stays}
 use Rattle.junction.proofs.Fresh.{Agreed, from-made, told-made}
 
 -- no call changes the junction's name
@@ -163,6 +164,7 @@ module _ {D B : Type 0} (t : Table) (m : Meaning B) (law : Lawful m) (apart : Li
           let x = moving n (j .name) (history t m j cs) q (end .few) (subst (λ u. u < limit) (end .used) free) (λ e. busy (spot q lq ∙ e)) in
           (x .0, (x .1, (λ e. x .2 (sym (spot (x .0) (x .1)) ∙ e))), x .3);
       holder = holder;
+      refused-stays = λ c e h. call-stays t m again range j′ e c h;
       others-stay = others-stay;
       board-serves = board-serves again range;
     }

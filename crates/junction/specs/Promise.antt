@@ -154,6 +154,8 @@ pub record Safe-merge {D B : Type 0} (t : Table) (m : Meaning B) (j : Junction D
   pub never-stuck : (q : ℕ) → Working t m j cs q → after t m j cs .counts .used < limit → (p : ℕ) × Working t m j cs p × CanMove t (j .size .stations) (j .name) (history t m j cs) p
   -- holder names the only station that holds the merge
   pub holder : (r : Option ℕ) → Holder-is t (after t m j cs) r → (p : ℕ) → Holding t m j cs p → r ≡ Some p
+  -- a refused call changes nothing
+  pub refused-stays : (c : Call) (e : Refusal) → call-answers t m (after t m j cs) c ≡ Err e → call-leaves t m (after t m j cs) c ≡ after t m j cs
   pub others-stay : Others-stay t m j cs
   pub board-serves : Board-serves t m j cs
 

@@ -23,6 +23,7 @@ use Rattle.disciplines.proofs.Records.{lasting}
 use Rattle.disciplines.proofs.Ranges as contest
 use Rattle.disciplines.proofs.Four.Facts.{gone, Seen-as}
 use Rattle.disciplines.proofs.Four.Sound.{seen-as}
+use Rattle.disciplines.proofs.Unread.{four-unread}
 
 -- At 35, 36, 43 and 44 those left are stations.
 abbrev Doors : ℕ → ℕ → Record → Type 0
@@ -125,4 +126,5 @@ four-range = record {
       contest.numbered-read four-line N _ x (four-lines .looks N p s k) e
       (reads (view (s .place)) N s k x (seen-as N name few es p) (c .left) (c .kept) (h .door-kept) (h .turns) (h .turn-kept) e);
   settles = λ N p s k high x v s′ lt e. (4 * p + offset x, rw (lt-ltb p N lt) refl);
+  unread = λ N p s k high e. four-unread (view (s .place)) N p s k high e;
 }
