@@ -9,12 +9,12 @@ use Rattle.boards.specs.Lines.{Line, settled}
 use Rattle.disciplines.specs.declared.record.Record.{Record}
 use Rattle.disciplines.specs.declared.lines.Part.the-variants as part
 use Rattle.disciplines.specs.declared.contest.Contest.{Contest}
-use Rattle.disciplines.specs.Sets.{has}
+use Rattle.sets.specs.Sets.{has}
 use Rattle.disciplines.specs.Rows.{release-place, failed, to-number}
 use Rattle.disciplines.specs.Contest.{label, looks, goes}
 use Rattle.disciplines.specs.Table.{Table}
 use Rattle.disciplines.specs.Runs.{Own, Reply, of-go, looked, after, is-done, stands, stirs, stirred, next-go, takes}
-use Rattle.disciplines.proofs.SetLaws.{without-at, above-at, first-at, empty-at, member, member-in}
+use Rattle.sets.proofs.SetLaws.{without-at, above-at, first-at, empty-at, member, member-in}
 
 -- A line that is settled, low or high.
 abbrev pub low : Line

@@ -1,6 +1,3 @@
-pub mod Bits
-pub mod SetLaws
-pub mod SetCode
 pub mod LinesApart
 pub mod Calls
 pub mod Records

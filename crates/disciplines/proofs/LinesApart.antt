@@ -17,7 +17,7 @@ use Rattle.disciplines.specs.declared.contest.Contest.{Contest as Step}
 use Rattle.disciplines.specs.declared.contest.Contest.the-variants.{RaiseClaim, LookBelow, LowerClaim, AwaitLower, PickAbove, AwaitAbove, Release}
 use Rattle.disciplines.specs.declared.plain.PlainPlace.{PlainPlace}
 use Rattle.disciplines.specs.declared.plain.PlainPlace.the-variants.{Idle, Contest, Merging, Failed}
-use Rattle.disciplines.specs.Sets.{has}
+use Rattle.sets.specs.Sets.{has}
 use Rattle.disciplines.specs.Rows.{flag}
 use Rattle.disciplines.specs.Contest as contest
 use Rattle.disciplines.specs.FourLine.{four-line, offset}

@@ -11,7 +11,7 @@ use Rattle.disciplines.specs.Plain.{plain, view, label, looks, goes}
 use Rattle.disciplines.specs.Runs.{Event, Own, run, is-done, limit, of-go, looked}
 use Rattle.disciplines.specs.Words.{Busy, CanMove}
 use Rattle.disciplines.specs.Laws.{Never-stuck}
-use Rattle.disciplines.proofs.SetLaws.{member}
+use Rattle.sets.proofs.SetLaws.{member}
 use Rattle.disciplines.proofs.ContestFacts.{low, goes-on}
 use Rattle.disciplines.proofs.ContestRuns.{facts, inside}
 use Rattle.disciplines.proofs.CanMove.{can-move}

@@ -14,12 +14,12 @@ use Rattle.disciplines.specs.declared.lines.Part.the-variants.{Claim}
 use Rattle.disciplines.specs.declared.lines.Flag.{Flag}
 use Rattle.disciplines.specs.declared.go.Go.the-variants.{Settles}
 use Rattle.disciplines.specs.declared.contest.Contest.{Contest}
-use Rattle.disciplines.specs.Sets.{has}
+use Rattle.sets.specs.Sets.{has}
 use Rattle.disciplines.specs.Contest.{label, looks, goes}
 use Rattle.disciplines.specs.Table.{Table}
 use Rattle.disciplines.specs.Runs.{Event, Own, run, after, went}
 use Rattle.disciplines.specs.Laws.{Numbered}
-use Rattle.disciplines.proofs.SetLaws.{without-at, above-at, first-at}
+use Rattle.sets.proofs.SetLaws.{without-at, above-at, first-at}
 use Rattle.disciplines.proofs.ContestFacts.{Wins, Aside, contested}
 use Rattle.disciplines.proofs.ContestRuns.{Has-contest, facts}
 use Rattle.disciplines.proofs.Records.{lasting}

@@ -10,7 +10,7 @@ use Rattle.disciplines.specs.declared.go.Go.{Go}
 use Rattle.disciplines.specs.declared.go.Go.the-variants.{Waits, Moves, Settles}
 use Rattle.disciplines.specs.declared.contest.Contest.{Contest}
 use Rattle.disciplines.specs.declared.contest.Contest.the-variants.{RaiseClaim, LookBelow, LowerClaim, AwaitLower, PickAbove, AwaitAbove, Release}
-use Rattle.disciplines.specs.Sets.{without, none, first, above}
+use Rattle.sets.specs.Sets.{without, none, first, above}
 use Rattle.disciplines.specs.Rows.{idle-place, to-number, keeping, leaving, flag, picked, picked-look}
 
 abbrev pub label : Contest → ℕ

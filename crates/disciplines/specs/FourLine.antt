@@ -13,7 +13,7 @@ use Rattle.disciplines.specs.declared.go.Go.the-variants.{Idle as Idles, Waits
 use Rattle.disciplines.specs.declared.contest.Contest.the-variants.{RaiseClaim, LookBelow, LowerClaim, AwaitLower, PickAbove, AwaitAbove, Release}
 use Rattle.disciplines.specs.declared.four_line.FourPlace.{FourPlace}
 use Rattle.disciplines.specs.declared.four_line.FourPlace.the-variants.{Idle, OpenDoor, CopyTurns, RaiseTurn, CloseDoor, PickTurn, AwaitTurn, Contest, LowerTurn, PickDoor, AwaitDoor, Merging, Failed, ClearClaim, ClearTurn0, ClearTurn1, RecheckDoor, AwaitRecheckedDoor, RecheckTurn, AwaitRecheckedTurn}
-use Rattle.disciplines.specs.Sets.{plus, without, none, first}
+use Rattle.sets.specs.Sets.{plus, without, none, first}
 use Rattle.disciplines.specs.Rows.{idle-place, merge-place, failed-place, to-number, keeping, leaving, copying, onto, flag, picked, picked-look}
 use Rattle.disciplines.specs.Contest as contest
 use Rattle.disciplines.specs.Table.{Table}

@@ -1,4 +1,3 @@
-pub mod Sets
 pub mod Rows
 pub mod Table
 pub mod Contest

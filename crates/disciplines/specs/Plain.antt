@@ -13,7 +13,7 @@ use Rattle.disciplines.specs.declared.go.Go.the-variants.{Idle as Idles, MustL
 use Rattle.disciplines.specs.declared.contest.Contest.the-variants.{RaiseClaim, LookBelow, LowerClaim, AwaitLower, PickAbove, AwaitAbove, Release}
 use Rattle.disciplines.specs.declared.plain.PlainPlace.{PlainPlace}
 use Rattle.disciplines.specs.declared.plain.PlainPlace.the-variants.{Idle, Contest, Merging, Failed}
-use Rattle.disciplines.specs.Sets.{none}
+use Rattle.sets.specs.Sets.{none}
 use Rattle.disciplines.specs.Rows.{idle-place, merge-place, failed-place, to-number, leaving, copying}
 use Rattle.disciplines.specs.Contest as contest
 use Rattle.disciplines.specs.Table.{Table}

@@ -8,8 +8,8 @@ use Rattle.disciplines.specs.declared.lines.Part.{Part}
 use Rattle.disciplines.specs.declared.lines.Flag.{Flag}
 use Rattle.disciplines.specs.declared.go.Go.{Go}
 use Rattle.disciplines.specs.declared.go.Go.the-variants.{WrongPick}
-use Rattle.disciplines.specs.declared.sets.Set.{Set}
-use Rattle.disciplines.specs.Sets.{has, is-none, none}
+use Rattle.sets.specs.declared.Set.{Set}
+use Rattle.sets.specs.Sets.{has, is-none, none}
 
 -- The places that every discipline has: not started, on the merge, to release it, failed.
 abbrev pub idle-place : ℕ

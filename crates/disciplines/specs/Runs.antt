@@ -14,7 +14,7 @@ use Rattle.disciplines.specs.declared.go.Go.{Go}
 use Rattle.disciplines.specs.declared.go.Go.the-variants.{Idle, Waits, WrongPick, MustLeave, Moves, Settles}
 use Rattle.disciplines.specs.declared.answers.Refusal.{Refusal}
 use Rattle.disciplines.specs.declared.answers.Refusal.the-variants as ref
-use Rattle.disciplines.specs.Sets.{everywhere}
+use Rattle.sets.specs.Sets.{everywhere}
 use Rattle.disciplines.specs.Rows.{idle-place, merge-place, release-place, failed-place, new-record, failed, to-number}
 use Rattle.disciplines.specs.Table.{Table}
 

@@ -9,8 +9,8 @@ use crate::lines::Flag;
 use crate::lines::Part;
 use crate::places::IDLE;
 use crate::record::Record;
-use crate::sets::Set;
 use crate::size::Size;
+use sets::Set;
 
 /// The places of the contest.
 #[derive(Clone, Copy)]

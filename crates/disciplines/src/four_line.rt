@@ -14,8 +14,8 @@ use crate::places::FAILED;
 use crate::places::IDLE;
 use crate::places::MERGING;
 use crate::record::Record;
-use crate::sets::Set;
 use crate::size::Size;
+use sets::Set;
 
 /// The places of the four-line discipline.
 #[derive(Clone, Copy)]

@@ -8,7 +8,6 @@ mod lines;
 mod places;
 mod plain;
 mod record;
-mod sets;
 mod size;
 
 pub use answers::Outcome;
@@ -32,5 +31,4 @@ pub use plain::Plain;
 pub use plain::PlainDiscipline;
 pub use plain::PlainPlace;
 pub use record::Record;
-pub use sets::Set;
 pub use size::Size;

@@ -12,8 +12,8 @@ use crate::places::FAILED;
 use crate::places::IDLE;
 use crate::places::MERGING;
 use crate::record::Record;
-use crate::sets::Set;
 use crate::size::Size;
+use sets::Set;
 
 /// The places of the plain discipline.
 #[derive(Clone, Copy)]

@@ -3,7 +3,7 @@ ghost use mathlib.Core.Path.{_≡_};
 ghost use Rattle.disciplines.specs.Rows.{to-number, new-record, failed};
 use crate::places::FAILED;
 use crate::places::IDLE;
-use crate::sets::Set;
+use sets::Set;
 
 /// A station's record: its private variables.
 #[derive(Clone, Copy)]

@@ -18,8 +18,8 @@ use Rattle.disciplines.specs.declared.size.Size.{Size}
 use Rattle.disciplines.specs.declared.lines.Part.{Part}
 use Rattle.disciplines.specs.declared.lines.Part.the-variants.{Door, Claim, Turn}
 use Rattle.disciplines.specs.Rows.{flag}
-use Rattle.disciplines.specs.Sets.{has}
-use Rattle.disciplines.proofs.SetLaws.{has-none}
+use Rattle.sets.specs.Sets.{has}
+use Rattle.sets.proofs.SetLaws.{has-none}
 use Rattle.disciplines.specs.Table.{Table}
 use Rattle.disciplines.specs.Laws.{Lines-apart}
 use Rattle.disciplines.specs.Runs.{State, made, new-own, line, most-stations}

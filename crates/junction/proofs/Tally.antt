@@ -15,8 +15,8 @@ use Rattle.disciplines.specs.declared.go.Go.the-variants.{Idle, Waits, WrongPic
 use Rattle.disciplines.specs.declared.answers.Refusal.{Refusal}
 use Rattle.disciplines.specs.declared.answers.Refusal.the-variants as ref
 use Rattle.disciplines.specs.Rows.{release-place, failed, to-number, merge-place}
-use Rattle.disciplines.specs.Sets.{has, plus, none, everywhere}
-use Rattle.disciplines.proofs.SetLaws.{has-plus, has-none}
+use Rattle.sets.specs.Sets.{has, plus, none, everywhere}
+use Rattle.sets.proofs.SetLaws.{has-plus, has-none}
 use Rattle.disciplines.specs.Table.{Table}
 use Rattle.disciplines.specs.Runs as runs
 use Rattle.disciplines.specs.Runs.{Event, start, stir, fail, take, go, leave, void, Ticket, State, Reply, done, waits, idle, refused, reply, next, run, limit, most-stations, of, of-go, goes-to, line-to, stands, is-accepted, is-done, is-go, frees, shows, limited, one-more, holds}

@@ -2,8 +2,8 @@
 use mathlib.Core.Bool.{Bool, cond, _&&_}
 use Prim.Native.Nat.{ℕ, _+_}
 use lib.Dec.{ltb}
-use Rattle.disciplines.specs.declared.sets.Set.{Set}
-use Rattle.disciplines.specs.Sets.{has, plus, none, everywhere}
+use Rattle.sets.specs.declared.Set.{Set}
+use Rattle.sets.specs.Sets.{has, plus, none, everywhere}
 use Rattle.junction.specs.declared.counts.Counts.{Counts}
 use Rattle.junction.specs.declared.counts.Note.{Note}
 

@@ -18,7 +18,7 @@ use Rattle.disciplines.specs.declared.answers.Outcome.{Outcome}
 use Rattle.disciplines.specs.declared.answers.Outcome.the-variants as out
 use Rattle.disciplines.specs.declared.answers.Refusal.{Refusal}
 use Rattle.disciplines.specs.Rows.{idle-place, flag}
-use Rattle.disciplines.specs.Sets.{has}
+use Rattle.sets.specs.Sets.{has}
 use Rattle.disciplines.specs.Table.{Table}
 use Rattle.disciplines.specs.Runs.{Event, start, stir, fail, take, go, leave, void, Ticket, Own, State, Reply, done, waits, idle, refused, reply, run, line, holds, limit}
 use Rattle.disciplines.specs.Words.{CanMove, Ahead}

@@ -17,13 +17,13 @@ use Rattle.junction.specs.declared.state.Junction.{Junction}
 use Rattle.disciplines.specs.declared.answers.Outcome.the-variants.{Accepted}
 use Rattle.disciplines.specs.declared.answers.Refusal.the-variants.{NotIdle, WrongPick, NothingToSettle}
 use Rattle.disciplines.specs.Rows.{new-record, to-number}
-use Rattle.disciplines.specs.Sets.{is-none, first}
+use Rattle.sets.specs.Sets.{is-none, first}
 use Rattle.disciplines.specs.Table.{Table}
 use Rattle.disciplines.specs.FourLine.{four-line, view}
 use Rattle.disciplines.specs.Laws.{Lines-apart, One-holder}
 use Rattle.disciplines.specs.Runs as runs
 use Rattle.disciplines.specs.Runs.{start, stir, go, Own, State, Reply, done, refused, reply, next, new-own, stands, goes-to, line-to, limit, is-done}
-use Rattle.disciplines.proofs.SetLaws.{first-at, empty-at}
+use Rattle.sets.proofs.SetLaws.{first-at, empty-at}
 use Rattle.junction.specs.declared.stations.Station.{Station}
 use Rattle.junction.specs.Promise.{Call, to-start, to-stir, to-go, replied, Agrees}
 use Rattle.worked.specs.Worked.{Starts-once, Stirs-at-door, Picks-turn, four-line-junction}

@@ -9,7 +9,7 @@ use Rattle.boards.specs.Hold.{hold}
 use Rattle.boards.specs.declared.hold.Hold.{Hold}
 use Rattle.disciplines.specs.declared.four_line.FourLine.{FourLine}
 use Rattle.disciplines.specs.declared.answers.Outcome.the-variants.{Accepted, Waits}
-use Rattle.disciplines.specs.Sets.{has}
+use Rattle.sets.specs.Sets.{has}
 use Rattle.disciplines.specs.FourLine.{four-line}
 use Rattle.disciplines.specs.Runs.{limit}
 use Rattle.junction.specs.declared.state.Junction.{Junction}

@@ -6,7 +6,7 @@ use mathlib.Core.Logic.{_⊎_}
 use lib.Dec.{eqb}
 use Rattle.boards.specs.Lines.{Line}
 use Rattle.disciplines.specs.declared.record.Record.{Record}
-use Rattle.disciplines.specs.Sets.{has}
+use Rattle.sets.specs.Sets.{has}
 use Rattle.disciplines.specs.FourLine.{four-line, view, label}
 use Rattle.disciplines.specs.declared.four_line.FourPlace.the-variants.{CopyTurns}
 use Rattle.disciplines.specs.Runs.{Own, went, after}

@@ -6,11 +6,11 @@ use mathlib.Core.Logic.{_⊎_, inl, inr, _≢_}
 use native.Mathlib.Omega.{arith}
 use Rattle.std.proofs.shelf.Ways.{tells}
 use Rattle.std.proofs.shelf.Tests.{cases-bool, cases-order, cases-eq}
-use Rattle.disciplines.specs.Sets.{is-none}
+use Rattle.sets.specs.Sets.{is-none}
 use Rattle.disciplines.specs.FourLine.{view}
 use Rattle.disciplines.specs.declared.four_line.FourPlace.the-variants.{CopyTurns}
 use Rattle.disciplines.specs.Runs.{Own}
-use Rattle.disciplines.proofs.SetLaws.{without-at, plus-at, empty-at, has-small}
+use Rattle.sets.proofs.SetLaws.{without-at, plus-at, empty-at, has-small}
 use Rattle.disciplines.proofs.ContestFacts.{low, Claiming, Apart}
 use Rattle.disciplines.proofs.Four.Turns.{turn, own-turn, num, half, side-of}
 use Rattle.disciplines.proofs.Four.Facts.{gone, came-to, view-23, Seen-as, Sound, Pair, Copy}

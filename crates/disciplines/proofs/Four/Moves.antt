@@ -9,12 +9,12 @@ use lib.Dec.{eqb}
 use Rattle.std.proofs.shelf.Ways.{tells}
 use Rattle.std.proofs.shelf.Tests.{cases-eq}
 use Rattle.disciplines.specs.declared.record.Record.{Record}
-use Rattle.disciplines.specs.Sets.{has}
+use Rattle.sets.specs.Sets.{has}
 use Rattle.disciplines.specs.FourLine.{four-line, odd}
 use Rattle.disciplines.specs.Runs.{Event, Own, run, limit, went, is-done}
 use Rattle.disciplines.specs.Words.{Busy, CanMove}
 use Rattle.disciplines.specs.Laws.{Never-stuck}
-use Rattle.disciplines.proofs.SetLaws.{member, member-in}
+use Rattle.sets.proofs.SetLaws.{member, member-in}
 use Rattle.disciplines.proofs.Ghost.{came}
 use Rattle.disciplines.proofs.ContestFacts.{low, Raised}
 use Rattle.disciplines.proofs.ContestRuns.{inside}

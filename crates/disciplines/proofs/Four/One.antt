@@ -7,7 +7,7 @@ use Rattle.std.proofs.shelf.Ways.{tells}
 use Rattle.disciplines.specs.FourLine.{four-line}
 use Rattle.disciplines.specs.Rows.{to-number, release-place, failed}
 use Rattle.disciplines.specs.Runs.{Own, stands, takes, stirred}
-use Rattle.disciplines.proofs.SetLaws.{without-at, plus-at, none-at, empty-at}
+use Rattle.sets.proofs.SetLaws.{without-at, plus-at, none-at, empty-at}
 use Rattle.disciplines.proofs.Four.Turns.{num, half, side-of}
 use Rattle.disciplines.proofs.Four.Facts.{gone, Seen-as, Sound, Copy, Copy-kept, Turned, Door, Turns-of, Indoor, Self}
 

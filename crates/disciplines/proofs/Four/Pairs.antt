@@ -11,7 +11,7 @@ use Rattle.disciplines.specs.declared.record.Record.{Record}
 use Rattle.disciplines.specs.Rows.{new-record}
 use Rattle.disciplines.specs.FourLine.{four-line}
 use Rattle.disciplines.specs.Runs.{Event, Own, State, Reply, run, reply, after, is-done, of, frees}
-use Rattle.disciplines.proofs.SetLaws.{none-at}
+use Rattle.sets.proofs.SetLaws.{none-at}
 use Rattle.disciplines.proofs.Calls.{calls, two}
 use Rattle.disciplines.proofs.Ghost as ghost
 use Rattle.disciplines.proofs.Ghost.{in-way, is-start}

@@ -11,12 +11,12 @@ use Rattle.std.specs.declared.option.Option.the-variants.{Some}
 use Rattle.disciplines.specs.declared.record.Record.{Record}
 use Rattle.disciplines.specs.declared.lines.Flag.{Flag}
 use Rattle.disciplines.specs.declared.four_line.FourPlace.{FourPlace}
-use Rattle.disciplines.specs.Sets.{has}
+use Rattle.sets.specs.Sets.{has}
 use Rattle.disciplines.specs.Rows.{release-place, failed, new-record, to-number}
 use Rattle.disciplines.specs.FourLine.{four-line, view, label, looks, offset}
 use Rattle.disciplines.specs.Runs.{Event, Own, run}
 use Rattle.disciplines.specs.Laws.{In-range}
-use Rattle.disciplines.proofs.SetLaws.{without-at, plus-at, none-at, first-at}
+use Rattle.sets.proofs.SetLaws.{without-at, plus-at, none-at, first-at}
 use Rattle.disciplines.proofs.LinesApart.{four-lines}
 use Rattle.disciplines.proofs.FourContest.{Place, four-contest}
 use Rattle.disciplines.proofs.Records.{lasting}

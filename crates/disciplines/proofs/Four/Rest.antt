@@ -10,7 +10,7 @@ use Rattle.disciplines.specs.declared.record.Record.{Record}
 use Rattle.disciplines.specs.FourLine.{four-line}
 use Rattle.disciplines.specs.Rows.{to-number, release-place, failed}
 use Rattle.disciplines.specs.Runs.{Own, stirred}
-use Rattle.disciplines.proofs.SetLaws.{first-at, none-at}
+use Rattle.sets.proofs.SetLaws.{first-at, none-at}
 use Rattle.disciplines.proofs.Ghost.{in-way}
 use Rattle.disciplines.proofs.Four.Turns.{own-turn, num, num-lt}
 use Rattle.disciplines.proofs.Four.Facts.{came-to, Seen-as, Pair, Copy, Turned₂, Indoor₂}

@@ -4,9 +4,9 @@ use mathlib.Core.Bool.{Bool, true, not}
 use mathlib.Core.Path.{_≡_}
 use native.Mathlib.Omega.{arith}
 use Rattle.std.proofs.shelf.Ways.{tells}
-use Rattle.disciplines.specs.Sets.{has}
+use Rattle.sets.specs.Sets.{has}
 use Rattle.disciplines.specs.Runs.{Own}
-use Rattle.disciplines.proofs.SetLaws.{without-at, first-at, empty-at}
+use Rattle.sets.proofs.SetLaws.{without-at, first-at, empty-at}
 use Rattle.disciplines.proofs.Four.Turns.{own-turn, num, half, side-of, num-lt}
 use Rattle.disciplines.proofs.Four.Facts.{gone, came-to, Seen-as, Sound, Pair, Copy}
 use Rattle.disciplines.proofs.Four.Facts.{Turned, Indoor, Seen, Ahead, First, Fresh, Stale, Copied, Later, Turns-left, Turned₂, Indoor₂}

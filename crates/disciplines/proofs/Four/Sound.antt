@@ -7,7 +7,7 @@ use mathlib.Core.Logic.{inl}
 use native.Mathlib.Omega.{arith}
 use Rattle.disciplines.specs.FourLine.{four-line}
 use Rattle.disciplines.specs.Runs.{Event, Own, run, new-own}
-use Rattle.disciplines.proofs.SetLaws.{none-at}
+use Rattle.sets.proofs.SetLaws.{none-at}
 use Rattle.disciplines.proofs.Calls.{kept, one}
 use Rattle.disciplines.proofs.ContestRuns.{Facts, facts}
 use Rattle.disciplines.proofs.FourContest.{Place, seen, four-contest}

@@ -13,7 +13,7 @@ use Rattle.boards.specs.declared.hold.Hold.{Hold}
 use Rattle.disciplines.specs.declared.four_line.FourLine.{FourLine}
 use Rattle.disciplines.specs.declared.record.Record.{Record}
 use Rattle.disciplines.specs.Rows.{new-record, flag}
-use Rattle.disciplines.specs.Sets.{has}
+use Rattle.sets.specs.Sets.{has}
 use Rattle.disciplines.specs.FourLine.{four-line}
 use Rattle.disciplines.specs.Runs as runs
 use Rattle.disciplines.specs.Runs.{start, stir, go, Own, State, new-own, stands, limit}

@@ -7,11 +7,11 @@ use native.Mathlib.Omega.{arith}
 use lib.Dec.{eqb}
 use Rattle.std.proofs.shelf.Ways.{tells}
 use Rattle.boards.specs.Lines.{loose}
-use Rattle.disciplines.specs.Sets.{has}
+use Rattle.sets.specs.Sets.{has}
 use Rattle.disciplines.specs.FourLine.{four-line, odd}
 use Rattle.disciplines.specs.Runs as runs
 use Rattle.disciplines.specs.Runs.{Own, is-done, reading}
-use Rattle.disciplines.proofs.SetLaws.{without-at, plus-at, empty-at, member, member-in}
+use Rattle.sets.proofs.SetLaws.{without-at, plus-at, empty-at, member, member-in}
 use Rattle.worked.proofs.Lone.FourFit.{low, high, turn, Seen-as}
 
 -- Station 0 at 25 to 34 of its first start.

@@ -21,7 +21,7 @@ use Rattle.disciplines.specs.declared.go.Go.the-variants.{Idle, Waits, WrongPic
 use Rattle.disciplines.specs.declared.four_line.FourLine.{FourLine}
 use Rattle.disciplines.specs.declared.answers.Refusal.the-variants.{NoStation, Limit}
 use Rattle.disciplines.specs.Rows.{flag, idle-place}
-use Rattle.disciplines.specs.Sets.{has}
+use Rattle.sets.specs.Sets.{has}
 use Rattle.disciplines.specs.FourLine.{four-line, view, odd, offset, turn}
 use Rattle.disciplines.specs.Runs.{limit, settles-some, stirs}
 use Rattle.junction.specs.declared.state.Junction.{Junction}

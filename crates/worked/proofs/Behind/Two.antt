@@ -8,14 +8,14 @@ use lib.Dec.{eqb, ltb}
 use Rattle.std.proofs.shelf.Ways.{tells}
 use Rattle.std.proofs.shelf.Tests.{lt-ltb, cond-both}
 use Rattle.boards.specs.Lines.{Line, loose}
-use Rattle.disciplines.specs.declared.sets.Set.{Set}
+use Rattle.sets.specs.declared.Set.{Set}
 use Rattle.disciplines.specs.Rows.{new-record}
-use Rattle.disciplines.specs.Sets.{has}
+use Rattle.sets.specs.Sets.{has}
 use Rattle.disciplines.specs.Table.{Table}
 use Rattle.disciplines.specs.FourLine.{four-line, odd}
 use Rattle.disciplines.specs.Runs as runs
 use Rattle.disciplines.specs.Runs.{Event, start, stir, go, of, Own, State, done, reply, next, new-own, stands, limit, reading}
-use Rattle.disciplines.proofs.SetLaws.{first-at, none-at}
+use Rattle.sets.proofs.SetLaws.{first-at, none-at}
 use Rattle.disciplines.proofs.Calls.{others, named}
 use Rattle.disciplines.proofs.FourContest as contest
 use Rattle.worked.proofs.Lone.FourFit.{high, turn, Seen-as}

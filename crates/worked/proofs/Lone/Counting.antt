@@ -5,9 +5,9 @@ use Prim.Native.Nat.{ℕ, zero, suc, _-_, _<_, _≤_, min}
 use native.Mathlib.Omega.{arith}
 use lib.Dec.{eqb, ltb}
 use Rattle.std.proofs.shelf.Ways.{tells}
-use Rattle.disciplines.specs.declared.sets.Set.{Set}
-use Rattle.disciplines.specs.Sets.{has, nowhere, is-none, first, above, without}
-use Rattle.disciplines.proofs.SetLaws.{without-at, first-at, above-at, has-small}
+use Rattle.sets.specs.declared.Set.{Set}
+use Rattle.sets.specs.Sets.{has, nowhere, is-none, first, above, without}
+use Rattle.sets.proofs.SetLaws.{without-at, first-at, above-at, has-small}
 
 -- Of how many numbers below n a test holds.
 unfoldable pub tally : ℕ → (ℕ → Bool) → ℕ

@@ -7,10 +7,10 @@ use native.Mathlib.Omega.{arith}
 use Rattle.std.proofs.shelf.Ways.{tells}
 use Rattle.std.proofs.shelf.Tests.{cases-eq}
 use Rattle.boards.specs.Lines.{Line, settled}
-use Rattle.disciplines.specs.Sets.{has, above}
+use Rattle.sets.specs.Sets.{has, above}
 use Rattle.disciplines.specs.FourLine.{four-line, view, label, odd}
 use Rattle.disciplines.specs.Runs.{Own, new-own, went, after}
-use Rattle.disciplines.proofs.SetLaws.{without-at, first-at, above-at, member, member-in}
+use Rattle.sets.proofs.SetLaws.{without-at, first-at, above-at, member, member-in}
 use Rattle.disciplines.proofs.FourContest as contest
 use Rattle.worked.proofs.Lone.Counting.{members}
 use Rattle.worked.proofs.Lone.Alone.{Alone}

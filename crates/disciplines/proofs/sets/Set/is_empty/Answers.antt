@@ -1,6 +1,0 @@
-use Rattle.disciplines.proofs.SetCode.{empty-is}
-use native.Mathlib.Omega.{arith}
-use Rattle.disciplines.proofs.sets.Set.is_empty.Needs as need
-
-pub returns : need.returns
-returns c = empty-is (c .args .self) (omega arith)
