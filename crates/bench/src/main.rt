@@ -1,4 +1,6 @@
 //! Plays the schedule on standard input and prints its report.
+#![tactic(auto)]
+
 ghost use Rattle.std.specs.Prelude.{◌≤◌, length, IfOk};
 
 use play::{GrantEntry, REPORT_BYTES, RefusalEntry, write_report};

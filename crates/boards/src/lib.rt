@@ -1,4 +1,6 @@
 //! Boards of lines. A line is settled low, settled high, or loose (being written).
+#![tactic(auto)]
+
 mod board;
 mod cells;
 mod hold;

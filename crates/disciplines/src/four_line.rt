@@ -1,6 +1,6 @@
 //! The four-line discipline: a door, a claim and two turns for each station. First come, first served.
 ghost use Rattle.std.specs.Prelude.{◌≡◌, ℕ};
-ghost use Rattle.steps.specs.FourLine.{four_line, label, view};
+ghost use Rattle.steps.specs.FourLine.{four_line, label, view, offset};
 ghost use borrow.Author.Rules.{rules};
 ghost use Rattle.runs.proofs.LinesApart.{four_lines};
 ghost use Rattle.std.proofs.Common.{arith};
@@ -52,13 +52,10 @@ impl Discipline for FourLine {
     }
 
     fn number(size: Size, flag: Flag) -> Option<usize> {
-        let p = flag.station;
-        match flag.part {
-            _ if p >= size.stations => None,
-            Part::Door => Some(4 * p),
-            Part::Claim => Some(4 * p + 1),
-            Part::Turn(false) => Some(4 * p + 2),
-            Part::Turn(true) => Some(4 * p + 3),
+        if flag.station < size.stations {
+            Some(4 * flag.station + offset(flag.part))
+        } else {
+            None
         }
     }
 
@@ -87,5 +84,17 @@ impl Discipline for FourLine {
 impl FairDiscipline for FourLine {
     fn ahead_places() -> (u8, u8) {
         (FourPlace::CloseDoor.label(), MERGING)
+    }
+}
+
+// Where a part stands among the four lines of its station.
+fn offset(part: Part) -> usize
+    ensures { result ≡ offset part }
+{
+    match part {
+        Part::Door => 0,
+        Part::Claim => 1,
+        Part::Turn(false) => 2,
+        Part::Turn(true) => 3,
     }
 }

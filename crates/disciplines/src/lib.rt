@@ -1,4 +1,6 @@
 //! Disciplines of the merge: what the junction asks of one, and the two that there are.
+#![tactic(auto)]
+
 mod discipline;
 mod four_line;
 mod plain;
@@ -6,3 +8,9 @@ mod plain;
 pub use discipline::{Discipline, FairDiscipline};
 pub use four_line::FourLine;
 pub use plain::Plain;
+
+// What callers of a discipline name too.
+pub use steps::{
+    FAILED, Flag, FourPlace, Go, IDLE, MERGING, Outcome, Part, PlainPlace, RELEASE, Record,
+    Refusal, Size, answer_number,
+};

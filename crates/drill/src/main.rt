@@ -1,4 +1,6 @@
 //! Three stations share a merge over a noisy board: a drill of the calls that a junction offers.
+#![tactic(auto)]
+
 mod compete;
 mod passes;
 mod picks;

@@ -1,4 +1,6 @@
 //! A junction: stations that share one merge, by a discipline, over a board.
+#![tactic(auto)]
+
 mod calls;
 mod counts;
 mod making;

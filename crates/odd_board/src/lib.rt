@@ -1,4 +1,6 @@
 //! A board that neither the junction nor its proofs have seen, and a junction over it.
+#![tactic(auto)]
+
 mod board;
 mod made;
 #[cfg(test)]

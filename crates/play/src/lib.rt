@@ -1,4 +1,6 @@
 //! Plays a schedule on a junction, and writes its report.
+#![tactic(auto)]
+
 mod entries;
 mod event;
 mod events;

@@ -1,4 +1,6 @@
 //! The lines of a report, each as its bytes.
+#![tactic(auto)]
+
 mod digits;
 mod lines;
 

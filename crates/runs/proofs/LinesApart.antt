@@ -13,13 +13,16 @@ use Rattle.steps.specs.declared.plain.PlainPlace.TheVariants.{Idle, Contest, Mer
 use Rattle.sets.specs.Sets.{has}
 use Rattle.steps.specs.Rows.{flag}
 use Rattle.steps.specs.Contest as contest
-use Rattle.steps.specs.FourNumbers.{number_of}
-use Rattle.steps.specs.FourLine.{four_line}
+use Rattle.steps.specs.FourLine.{four_line, offset}
 use Rattle.steps.specs.Plain.{plain, view, looks, number}
 use Rattle.runs.specs.Laws.{LinesApart, Numbered}
 
 flag_same : (x y : Flag) → x.station ≡ y.station → x.part ≡ y.part → x ≡ y
 flag_same x y a b = λ i. flag (a i) (b i)
+
+-- The number of that line of station p, of N stations: the four lines of a station stand one after another. Proofs speak of the numbers by this name.
+abbrev pub number_of : ℕ → ℕ → Part → ℕ
+number_of N p x = 4 * p + offset x
 
 -- A line of the four-line discipline is of a station that is there, and has the number that the rules give it.
 four_number : (N : ℕ) (x : Flag) (l : ℕ) → four_line.number N x ≡ Some l → (x.station < N) × (l ≡ number_of N x.station x.part)
@@ -28,14 +31,23 @@ four_number N x l =
     (λ t e. (grind (arith, nat_tests), cc))
     (λ t e. absurd (grind arith))
 
+offset_lt : (x : Part) → offset x < 4
+offset_lt Door = omega arith
+offset_lt Claim = omega arith
+offset_lt (Turn true) = omega arith
+offset_lt (Turn false) = omega arith
+
+offset_apart : (x y : Part) → offset x ≡ offset y → x ≡ y
+offset_apart x y e = grind arith
+
 number_below : (N p : ℕ) (x : Part) → p < N → number_of N p x < N * 4
-number_below N p Door lt = omega arith
-number_below N p Claim lt = omega arith
-number_below N p (Turn true) lt = omega arith
-number_below N p (Turn false) lt = omega arith
+number_below N p x lt = let m = offset_lt x in omega arith
 
 number_apart : (N p q : ℕ) (x y : Part) → p < N → q < N → number_of N p x ≡ number_of N q y → (p ≡ q) × (x ≡ y)
-number_apart N p q x y lp lq e = (grind arith, grind arith)
+number_apart N p q x y lp lq e =
+    let m = offset_lt x in
+    let n = offset_lt y in
+    (omega arith, offset_apart x y (omega arith))
 
 four_apart : (N : ℕ) (x y : Flag) (l : ℕ) → four_line.number N x ≡ Some l → four_line.number N y ≡ Some l → x ≡ y
 four_apart N x y l a b =

@@ -1,1 +1,2 @@
 //! Histories of calls: what follows from them by a step table, and what every history keeps.
+#![tactic(auto)]

@@ -1,4 +1,6 @@
 //! Schedules: bytes that tell a discipline, a number of stations, the events to play and the noise of a tape.
+#![tactic(auto)]
+
 mod discipline;
 mod event;
 mod read;

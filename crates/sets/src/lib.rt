@@ -1,4 +1,6 @@
 // Sets of numbers below 32.
+#![tactic(auto)]
+
 ghost use Rattle.std.specs.Prelude.{◌≡◌, ℕ, Bool};
 ghost use Rattle.sets.specs.Sets.{has, plus, without, none, first, above, is_none, everywhere};
 

@@ -1,5 +1,5 @@
 -- The four-line discipline as a step table: a door, a claim and two turns for each station.
-use Rattle.std.specs.Prelude.{ℕ, ◌*◌, ◌/◌, ◌%◌, Bool, true, false, cond, not, Some, None, Option, ◌==◌, nat_lt}
+use Rattle.std.specs.Prelude.{ℕ, ◌+◌, ◌*◌, ◌/◌, ◌%◌, Bool, true, false, cond, not, Some, None, Option, ◌==◌, nat_lt}
 use Rattle.steps.specs.declared.record.Record.{Record}
 use Rattle.steps.specs.declared.lines.Part.{Part}
 use Rattle.steps.specs.declared.lines.Part.TheVariants.{Door, Claim, Turn}
@@ -11,7 +11,6 @@ use Rattle.steps.specs.declared.four_line.FourPlace.{FourPlace}
 use Rattle.steps.specs.declared.four_line.FourPlace.TheVariants.{Idle, OpenDoor, CopyTurns, RaiseTurn, CloseDoor, PickTurn, AwaitTurn, Contest, LowerTurn, PickDoor, AwaitDoor, Merging, Failed, ClearClaim, ClearTurn0, ClearTurn1, RecheckDoor, AwaitRecheckedDoor, RecheckTurn, AwaitRecheckedTurn}
 use Rattle.sets.specs.Sets.{plus, without, none, first}
 use Rattle.steps.specs.Rows.{idle_place, merge_place, failed_place, to_number, keeping, leaving, copying, onto, flag, picked, picked_look}
-use Rattle.steps.specs.FourNumbers.{number_of}
 use Rattle.steps.specs.Contest as contest
 use Rattle.steps.specs.Table.{Table}
 
@@ -126,10 +125,16 @@ goes AwaitRecheckedDoor N p s k high = cond high Waits (Moves (to RecheckDoor (l
 goes RecheckTurn N p s k high = picked s.left k (Moves (to Idle s)) (Moves (to AwaitRecheckedTurn (keeping k s)))
 goes AwaitRecheckedTurn N p s k high = cond high Waits (Moves (to RecheckTurn (leaving (without s.kept s.left) s)))
 
+-- Where a part stands among the four lines of its station.
+abbrev pub offset : Part → ℕ
+offset Door = 0
+offset Claim = 1
+offset (Turn e) = cond e 3 2
+
 abbrev pub four_line : Table
 four_line = record {
   per = 4;
-  number = λ N x. cond (nat_lt x.station N) (Some (number_of N x.station x.part)) None;
+  number = λ N x. cond (nat_lt x.station N) (Some (4 * x.station + offset x.part)) None;
   grant = label LowerTurn;
   starts = λ N s. to OpenDoor (leaving (first (2 * N)) (copying none s));
   looks = λ N p s k. looks (view s.place) s k;

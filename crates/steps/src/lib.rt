@@ -1,4 +1,6 @@
 //! What one step of a station is: its record, its lines by name, the rows of both disciplines, and what a call is answered.
+#![tactic(auto)]
+
 mod answers;
 mod contest;
 mod four_line;

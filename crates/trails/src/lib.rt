@@ -1,4 +1,6 @@
 //! A trail holds the newest n of the entries that were put, over n entries of the caller's memory (the field's word: ring buffer).
+#![tactic(auto)]
+
 ghost use Rattle.std.specs.Prelude.{◌-◌, ◌≤◌, length};
 ghost use Rattle.trails.specs.Held.{most_puts};
 

@@ -1,4 +1,6 @@
 //! Worked runs of the merge unit: what the calls promise, followed through and proved for every case.
+#![tactic(auto)]
+
 ghost use Rattle.std.specs.Prelude.{◌≡◌};
 ghost use Rattle.worked.specs.Worked.{WorkedRuns};
 

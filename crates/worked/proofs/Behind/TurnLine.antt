@@ -14,13 +14,12 @@ use Rattle.disciplines.specs.declared.four_line.FourLine.{FourLine}
 use Rattle.steps.specs.declared.answers.Refusal.TheVariants.{NoStation, Limit}
 use Rattle.steps.specs.Rows.{flag, idle_place}
 use Rattle.sets.specs.Sets.{has}
-use Rattle.steps.specs.FourNumbers.{number_of}
 use Rattle.steps.specs.FourLine.{four_line, view, odd, turn}
 use Rattle.runs.specs.Runs.{limit, settles_some, stirs}
 use Rattle.junction.specs.declared.state.Junction.{Junction}
 use Rattle.junction.specs.Wires.{on_line, hears, heard, settled_on, loosened_on, loosened_if}
 use Rattle.junction.specs.Calls.{place, unless, allowed_leaves, with_board, acted, look_of, go_of, next_go, start_leaves, go_leaves, stir_leaves}
-use Rattle.runs.proofs.LinesApart.{four_lines}
+use Rattle.runs.proofs.LinesApart.{number_of, four_lines}
 use Rattle.junction.proofs.Both.{unless_both}
 
 -- A fact of the number of stations and of the board, after each call of station p.

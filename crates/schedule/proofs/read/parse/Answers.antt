@@ -23,8 +23,8 @@ returns-then-bytes-gt-LONGEST c = record {
   reads_back = reads_back c.args.bytes.now (Err TooLong) (search rules);
 }
 
-pub returns-in-default : goal.returns-in-default
-returns-in-default c = record {
+pub returns-in_default : goal.returns-in_default
+returns-in_default c = record {
   value = search rules;
   sound = tt;
   fits = tt;

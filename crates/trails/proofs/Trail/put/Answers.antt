@@ -7,8 +7,8 @@ use Rattle.trails.proofs.Trail.put.Goals as goal
 pub returns : goal.returns
 unfolding held
 returns g c = record {
-  held = held_put c.args.self.now.slots.now c.args.self.now.next c.args.self.now.used c.args.self.now.count c.next-slot-self.result c.one-more-self.result c.min-self.result c.args.x
-      c.if-self-n.false c.next-slot-self.ensures c.one-more-self.ensures c.min-self.ensures;
+  held = held_put c.args.self.now.slots.now c.args.self.now.next c.args.self.now.used c.args.self.now.count c.next_slot-self.result c.one_more-self.result c.min-self.result c.args.x
+      c.if-self-n.false c.next_slot-self.ensures c.one_more-self.ensures c.min-self.ensures;
   slots = refl;
   name = search rules;
 }

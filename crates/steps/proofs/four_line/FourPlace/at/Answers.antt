@@ -3,4 +3,4 @@ use Rattle.steps.proofs.four_line.FourPlace.at.Goals as goal
 
 pub returns : goal.returns
 unfolding view
-returns c = c.find-place.ensures
+returns c = c.find_place.ensures
