@@ -4,5 +4,5 @@ use Rattle.junction.specs.Calls.{place}
 use Rattle.junction.proofs.state.Junction.holder.Given as goal
 
 -- none of the stations looked at so far holds the merge
-abbrev pub invariant_loop_p : goal.invariant-loop-p
-invariant_loop_p g l = (q : ℕ) → q < l.p → holds g.D.Discipline.table (place l.self q) ≡ false
+abbrev pub invariant-loop-p : goal.invariant-loop-p
+invariant-loop-p g l = (q : ℕ) → q < l.p → holds g.D.Discipline.table (place l.self q) ≡ false

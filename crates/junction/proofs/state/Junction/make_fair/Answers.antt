@@ -5,5 +5,5 @@ pub returns : goal.returns
 returns g c = record {
   made = c.make.ensures.made;
   safe = c.make.ensures.safe;
-  order = ordered _ _ _ c.make.ensures.safe c.ahead-places.ensures.order;
+  order = ordered _ _ _ c.make.ensures.safe c.ahead_places.ensures.order;
 }
