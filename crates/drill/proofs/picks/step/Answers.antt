@@ -3,8 +3,8 @@ use Rattle.drill.specs.Picks.{wrong_pick}
 use Rattle.drill.proofs.Picking.{answers_on, leaves_on, answers_here, leaves_here, answers_end, leaves_end}
 use Rattle.drill.proofs.picks.step.Goals as goal
 
-pub returns-then-not-wrong-pick : goal.returns-then-not-wrong-pick
-returns-then-not-wrong-pick g c =
+pub returns-then-not-wrong_pick : goal.returns-then-not-wrong_pick
+returns-then-not-wrong_pick g c =
     let t = g.D.Discipline.table in
     let m = g.B.Board.meaning in
     let w : wrong_pick c.go-answer.result ≡ false = search rules in

@@ -24,6 +24,6 @@ returns-in-Fail g c = record { answers = rw c.in-Fail.is c.fail.ensures.answers;
 pub returns-in-Leave : goal.returns-in-Leave
 unfolding answer after_event
 returns-in-Leave g c = record {
-  answers = rw c.in-Leave.is c.take-and-leave.ensures.answers;
-  leaves = rw c.in-Leave.is (c.take-and-leave.ensures.leaves ∙ left_is g.D.Discipline.table g.B.Board.meaning c.args.j.now c.in-Leave.station (take_answers g.D.Discipline.table g.B.Board.meaning c.args.j.now c.in-Leave.station));
+  answers = rw c.in-Leave.is c.take_and_leave.ensures.answers;
+  leaves = rw c.in-Leave.is (c.take_and_leave.ensures.leaves ∙ left_is g.D.Discipline.table g.B.Board.meaning c.args.j.now c.in-Leave.station (take_answers g.D.Discipline.table g.B.Board.meaning c.args.j.now c.in-Leave.station));
 }

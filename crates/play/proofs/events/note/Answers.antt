@@ -6,6 +6,6 @@ pub returns-in-Some : goal.returns-in-Some
 unfolding noted
 returns-in-Some g c = record { held = rw c.in-Some.is c.put.ensures.held; name = c.put.ensures.name }
 
-pub returns-in-default : goal.returns-in-default
+pub returns-in_default : goal.returns-in_default
 unfolding noted
-returns-in-default g c = record { held = rw c.in-default.is refl; name = refl }
+returns-in_default g c = record { held = rw c.in_default.is refl; name = refl }

@@ -6,4 +6,4 @@ pub returns : goal.returns
 returns c =
     let n = length c.args.bytes.now in
     let k : n ≡ c.args.at + n - c.args.at = omega arith in
-    put_mid-paste c.args.at (c.args.at + n - c.args.at) c.args.out.now c.copy-from-slice.new.self c.args.bytes.now n c.copy-from-slice.ensures.after k refl
+    put_mid-paste c.args.at (c.args.at + n - c.args.at) c.args.out.now c.copy_from_slice.new.self c.args.bytes.now n c.copy_from_slice.ensures.after k refl

@@ -8,7 +8,7 @@ pub returns-then-i-out : goal.returns-then-i-out
 unfolding with_line
 returns-then-i-out c =
     let h : 12 ≡ length c.args.line = search rules in
-    record { after = c.write-at.ensures ∙ ap (λ (n : ℕ). paste c.args.out.now (12 * c.args.i) c.args.line n) (sym h) ∙ cond_below _ _ _ _ c.if-i-out.true }
+    record { after = c.write_at.ensures ∙ ap (λ (n : ℕ). paste c.args.out.now (12 * c.args.i) c.args.line n) (sym h) ∙ cond_below _ _ _ _ c.if-i-out.true }
 
 pub returns-else-i-out : goal.returns-else-i-out
 unfolding with_line

@@ -25,14 +25,14 @@ returns-in-Err c = record {
   all = (
     _,
     shows_refusal (decode c.args.bytes.now) c.in-Err.refusal c.in-Err.ensures.value,
-    refusal_stands c.in-Err.refusal c.args.out.now c.write-at.new.out c.refusal-line-line.result c.number.result c.index.result (held c.args.grants.now) (held c.args.refusals.now) c.refusal-line-line.ensures.line c.number.ensures c.index.ensures c.write-at.ensures,
+    refusal_stands c.in-Err.refusal c.args.out.now c.write_at.new.out c.refusal_line-line.result c.number.result c.index.result (held c.args.grants.now) (held c.args.refusals.now) c.refusal_line-line.ensures.line c.number.ensures c.index.ensures c.write_at.ensures,
   );
   grants = refl;
   refusals = refl;
 }
 
-pub returns-then-is-empty : goal.returns-then-is-empty
-returns-then-is-empty c =
+pub returns-then-is_empty : goal.returns-then-is_empty
+returns-then-is_empty c =
     let p = plan c.in-Ok.schedule in
     let none : length p.noise ≡ 0 = search rules in
     record {
@@ -40,15 +40,15 @@ returns-then-is-empty c =
       all = (
         _,
         shows_held (decode c.args.bytes.now) p c.in-Ok.ensures.value none,
-        subst (λ (b : Hold). Stands (shown_on hold b p p.discipline) c.args.out.now c.play-over.new.out c.play-over.result (held c.args.grants.now) (held c.play-over.new.grants) (held c.args.refusals.now) (held c.play-over.new.refusals))
-            c.new.ensures.value c.play-over.ensures.shown,
+        subst (λ (b : Hold). Stands (shown_on hold b p p.discipline) c.args.out.now c.play_over.new.out c.play_over.result (held c.args.grants.now) (held c.play_over.new.grants) (held c.args.refusals.now) (held c.play_over.new.refusals))
+            c.new.ensures.value c.play_over.ensures.shown,
       );
-      grants = c.play-over.ensures.grants;
-      refusals = c.play-over.ensures.refusals;
+      grants = c.play_over.ensures.grants;
+      refusals = c.play_over.ensures.refusals;
     }
 
-pub returns-else-is-empty : goal.returns-else-is-empty
-returns-else-is-empty c =
+pub returns-else-is_empty : goal.returns-else-is_empty
+returns-else-is_empty c =
     let p = plan c.in-Ok.schedule in
     let some : length p.noise ≡ 0 → ⊥ = search rules in
     record {
@@ -56,9 +56,9 @@ returns-else-is-empty c =
       all = (
         _,
         shows_taped (decode c.args.bytes.now) p c.noise-noise.result c.in-Ok.ensures.value some c.noise-noise.ensures,
-        subst (λ (b : Tape). Stands (shown_on tape b p p.discipline) c.args.out.now c.play-over-else-is-empty.new.out c.play-over-else-is-empty.result (held c.args.grants.now) (held c.play-over-else-is-empty.new.grants) (held c.args.refusals.now) (held c.play-over-else-is-empty.new.refusals))
-            c.new-else-is-empty.ensures.value c.play-over-else-is-empty.ensures.shown,
+        subst (λ (b : Tape). Stands (shown_on tape b p p.discipline) c.args.out.now c.play_over-else-is_empty.new.out c.play_over-else-is_empty.result (held c.args.grants.now) (held c.play_over-else-is_empty.new.grants) (held c.args.refusals.now) (held c.play_over-else-is_empty.new.refusals))
+            c.new-else-is_empty.ensures.value c.play_over-else-is_empty.ensures.shown,
       );
-      grants = c.play-over-else-is-empty.ensures.grants;
-      refusals = c.play-over-else-is-empty.ensures.refusals;
+      grants = c.play_over-else-is_empty.ensures.grants;
+      refusals = c.play_over-else-is_empty.ensures.refusals;
     }
