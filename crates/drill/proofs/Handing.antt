@@ -1,10 +1,10 @@
 -- A pass of a junction's own is taken in by a leave or, where that is refused, by a void.
-use Rattle.std.proofs.Common.{◌≡◌, ℕ, Bool, true, false, cond, not, ◌&&◌, eqb, ltb, Some, None, Ok, Err, Option, Result, sym, refl, ap, ◌∙◌, arith}
+use Rattle.std.proofs.Common.{◌≡◌, ℕ, Bool, true, false, cond, ◌&&◌, eqb, ltb, Some, None, Ok, Err, Option, Result, sym, refl, ap, ◌∙◌, arith}
 use Rattle.boards.specs.Lines.{Meaning}
 use Rattle.steps.specs.declared.answers.Outcome.{Outcome}
 use Rattle.steps.specs.declared.answers.Outcome.TheVariants.{Accepted}
 use Rattle.steps.specs.declared.answers.Refusal.{Refusal}
-use Rattle.steps.specs.declared.answers.Refusal.TheVariants.{NotCurrent, NoStation, StillCurrent}
+use Rattle.steps.specs.declared.answers.Refusal.TheVariants.{NotCurrent, NoStation}
 use Rattle.steps.specs.Rows.{failed_place}
 use Rattle.steps.specs.Table.{Table}
 use Rattle.junction.specs.declared.pass.Pass.{Pass}

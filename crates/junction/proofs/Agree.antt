@@ -1,5 +1,5 @@
 -- Each call keeps the junction in agreement with its history: stations, lines and the count of calls.
-use Rattle.std.proofs.Common.{◌≡◌, ℕ, zero, suc, ◌*◌, ◌<◌, ◌≤◌, Bool, true, false, cond, not, ◌&&◌, eqb, ltb, ◌≢◌, length, get_or, set, Some, None, Option, sym, refl, ap, ◌∙◌, subst, inl, inr, add-one, arith, length-set, get_or-set_other, get_or-set_same, ltb-true, lt-ltb, eqb-true}
+use Rattle.std.proofs.Common.{◌≡◌, ℕ, suc, ◌*◌, ◌<◌, ◌≤◌, Bool, true, false, cond, ◌&&◌, eqb, ltb, ◌≢◌, length, get_or, set, Some, None, Option, sym, refl, ap, ◌∙◌, subst, inl, inr, add-one, arith, length-set, get_or-set_other, get_or-set_same, ltb-true, lt-ltb, eqb-true}
 use borrow.Author.Tests.{eqb-false}
 use Rattle.std.proofs.lemmas.Bool.Decides.{nat_tests}
 use Rattle.std.proofs.lemmas.Bool.{cond_both, cases_eq}
@@ -12,20 +12,19 @@ use Rattle.steps.specs.declared.go.Go.{Go}
 use Rattle.steps.specs.declared.go.Go.TheVariants.{Idle, Waits, WrongPick, MustLeave, Moves, Settles}
 use Rattle.steps.specs.declared.answers.Refusal.{Refusal}
 use Rattle.steps.specs.declared.answers.Refusal.TheVariants as ref
-use Rattle.steps.specs.Rows.{merge_place, idle_place, failed_place, release_place, failed, to_number, flag}
+use Rattle.steps.specs.Rows.{merge_place, release_place, failed, to_number, flag}
 use Rattle.steps.specs.Table.{Table}
 use Rattle.runs.specs.Laws.{LinesApart, Numbered}
 use Rattle.runs.specs.Runs as runs
 use Rattle.runs.specs.Runs.{Event, start, stir, fail, take, go, leave, void, Own, State, Reply, done, waits, idle, refused, reply, limit, most_stations, of, is_accepted, limited, one_more, line, line_to, lines_to, same_part, stands, goes_to, reading, looked, of_go, settles_some}
 use Rattle.junction.specs.declared.stations.Station.{Station}
 use Rattle.junction.specs.declared.counts.Note.{Note}
-use Rattle.junction.specs.declared.pass.Pass.{Pass}
 use Rattle.junction.specs.declared.state.Junction.{Junction}
 use Rattle.junction.specs.Stations.{at_record, arrived, pass_taken}
 use Rattle.junction.specs.Counts.{most, more_if}
-use Rattle.junction.specs.Wires.{hears, heard, settled_on, stirred_board}
-use Rattle.junction.specs.Calls.{station, place, with_board, counting, putting, stepped, note, start_leaves, allowed_leaves, look_of, go_of, acted, go_leaves, next_go, stir_leaves, fail_leaves, may_take, take_leaves, current, leave_leaves}
-use Rattle.junction.specs.Promise.{Call, to_start, to_stir, to_fail, to_take, to_go, to_leave, to_void, ticket, call_leaves, event, kept_of}
+use Rattle.junction.specs.Wires.{hears, heard, settled_on}
+use Rattle.junction.specs.Calls.{station, place, with_board, counting, stepped, note, look_of, go_of, acted, next_go}
+use Rattle.junction.specs.Promise.{Call, ticket, call_leaves, event, kept_of}
 use Rattle.junction.proofs.Both.{and_false, and_true}
 use Rattle.junction.proofs.ByCall.{bit, Alike, by_call}
 use Rattle.junction.proofs.Touch.{Touched, retouch, in_room, touch_settle, touch_stir, touch_read}

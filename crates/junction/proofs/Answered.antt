@@ -1,5 +1,5 @@
 -- Each call is answered as follows from the history.
-use Rattle.std.proofs.Common.{◌≡◌, ℕ, refl}
+use Rattle.std.proofs.Common.{◌≡◌, refl}
 use Rattle.boards.specs.Lines.{Meaning}
 use Rattle.steps.specs.declared.go.Go.{Go}
 use Rattle.steps.specs.declared.go.Go.TheVariants.{Idle, Waits, WrongPick, MustLeave, Moves, Settles}

@@ -1,6 +1,6 @@
 -- No count of a history comes near what 64 bits hold: grants are among the calls that the limit counts, ends are not more
 -- than grants, and each round ends in such a call or in the end of a hold.
-use Rattle.std.proofs.Common.{◌≡◌, ℕ, ◌+◌, ◌<◌, ◌≤◌, Bool, true, false, ◌&&◌, ◌⊎◌, List, [], ◌∷◌, refl, inl, inr, arith}
+use Rattle.std.proofs.Common.{◌≡◌, ℕ, ◌+◌, ◌≤◌, Bool, true, false, ◌&&◌, ◌⊎◌, List, [], ◌∷◌, refl, inl, inr, arith}
 use Rattle.std.proofs.lemmas.Bool.Decides.{nat_tests}
 use Rattle.steps.specs.Rows.{merge_place}
 use Rattle.steps.specs.Table.{Table}

@@ -16,7 +16,7 @@ use Rattle.junction.specs.declared.pass.Pass.{Pass}
 use Rattle.junction.specs.declared.state.Junction.{Junction}
 use Rattle.junction.specs.Stations.{at_record, pass_taken}
 use Rattle.junction.specs.Wires.{hears, heard, stirred_board}
-use Rattle.junction.specs.Calls.{station, place, with_board, counting, putting, stepped, note, answered, acted, allowed_answer, allowed_leaves, look_of, go_of, next_go, may_take, current}
+use Rattle.junction.specs.Calls.{station, place, with_board, counting, putting, stepped, note, answered, acted, allowed_answer, allowed_leaves, look_of, go_of, next_go}
 use Rattle.junction.specs.Promise.{Call, to_start, to_stir, to_fail, to_take, to_go, to_leave, to_void, ticket, taking, handing, call_leaves, call_answers, event, kept_of}
 use Rattle.junction.proofs.Both.{all_by, allowing}
 

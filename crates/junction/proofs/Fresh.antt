@@ -10,7 +10,6 @@ use Rattle.steps.specs.declared.size.Size.{Size}
 use Rattle.steps.specs.declared.lines.Part.{Part}
 use Rattle.steps.specs.declared.lines.Part.TheVariants.{Door, Claim, Turn}
 use Rattle.steps.specs.Rows.{flag}
-use Rattle.sets.specs.Sets.{has}
 use Rattle.sets.proofs.SetLaws.{has_none}
 use Rattle.steps.specs.Table.{Table}
 use Rattle.runs.specs.Laws.{LinesApart}

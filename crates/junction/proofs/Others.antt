@@ -1,5 +1,5 @@
 -- A call on one station leaves every other station, and every line of it, as they were.
-use Rattle.std.proofs.Common.{◌≡◌, ℕ, ◌<◌, Bool, true, false, eqb, ◌≢◌, Some, refl, ◌∙◌, subst, get_or-set_other}
+use Rattle.std.proofs.Common.{◌≡◌, ℕ, ◌≢◌, Some, refl, subst, get_or-set_other}
 use Rattle.boards.specs.Lines.{Meaning, Lawful}
 use Rattle.steps.specs.declared.lines.Part.{Part}
 use Rattle.steps.specs.declared.go.Go.{Go}

@@ -1,5 +1,5 @@
 -- A refused call changes nothing: of every junction, whatever it holds.
-use Rattle.std.proofs.Common.{◌≡◌, ℕ, Bool, true, false, cond, not, ◌&&◌, eqb, ltb, Some, None, Ok, Err, Option, Result, sym, refl, ap, ◌∙◌, subst, arith}
+use Rattle.std.proofs.Common.{◌≡◌, ℕ, Bool, true, false, cond, ◌&&◌, eqb, ltb, Some, None, Ok, Err, Option, Result, refl, ap, arith}
 use Rattle.boards.specs.Lines.{Meaning}
 use Rattle.steps.specs.declared.lines.Flag.{Flag}
 use Rattle.steps.specs.declared.go.Go.{Go}
@@ -14,7 +14,7 @@ use Rattle.runs.specs.Laws.{InRange}
 use Rattle.runs.specs.Runs.{refuses, limit, settles_some}
 use Rattle.junction.specs.declared.pass.Pass.{Pass}
 use Rattle.junction.specs.declared.state.Junction.{Junction}
-use Rattle.junction.specs.Wires.{hears, heard}
+use Rattle.junction.specs.Wires.{heard}
 use Rattle.junction.specs.Calls.{unless, place, with_board, answered, acted, look_of, go_of, next_go, may_take, current}
 use Rattle.junction.specs.Promise.{Call, to_start, to_stir, to_fail, to_take, to_go, to_leave, to_void, taking, handing, call_leaves, call_answers}
 

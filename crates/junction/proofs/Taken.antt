@@ -1,19 +1,18 @@
 -- A pass that was just taken is current, and a leave with it is accepted: of every junction, whatever it holds.
-use Rattle.std.proofs.Common.{◌≡◌, ℕ, ◌<◌, ◌≤◌, Bool, true, false, cond, not, ◌&&◌, eqb, ltb, length, get_or, set, Ok, Err, Result, sym, refl, ap, ◌∙◌, subst, inl, inr, arith, eq-eqb}
+use Rattle.std.proofs.Common.{◌≡◌, ℕ, Bool, true, false, cond, ◌&&◌, eqb, ltb, length, Ok, Err, Result, sym, refl, ap, ◌∙◌, subst, inl, inr, arith, eq-eqb}
 use Rattle.std.proofs.lemmas.List.{get_or_past, get_or-set_same}
 use Rattle.std.proofs.lemmas.Bool.Decides.{nat_tests}
-use Rattle.std.proofs.lemmas.Bool.{cond_both, cases_lt}
+use Rattle.std.proofs.lemmas.Bool.{cases_lt}
 use Rattle.boards.specs.Lines.{Meaning}
 use Rattle.steps.specs.declared.answers.Refusal.{Refusal}
 use Rattle.steps.specs.declared.answers.Refusal.TheVariants.{NoPass, NoStation}
-use Rattle.steps.specs.declared.answers.Outcome.TheVariants.{Accepted}
 use Rattle.steps.specs.Rows.{merge_place}
 use Rattle.steps.specs.Table.{Table}
 use Rattle.junction.specs.declared.stations.Station.{Station}
 use Rattle.junction.specs.declared.pass.Pass.{Pass}
 use Rattle.junction.specs.declared.state.Junction.{Junction}
 use Rattle.junction.specs.Stations.{pass_taken}
-use Rattle.junction.specs.Calls.{station, place, putting, may_take, current, take_answers, take_leaves, leave_answers, LeaveFollows}
+use Rattle.junction.specs.Calls.{station, place, putting, may_take, current, take_answers, take_leaves, LeaveFollows}
 use Rattle.junction.proofs.Agree.{blank}
 
 both_true : (a b : Bool) → a && b ≡ true → (a ≡ true) × (b ≡ true)

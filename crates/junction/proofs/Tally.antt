@@ -1,18 +1,16 @@
 -- Each call keeps the junction's totals, and the stations seen, those that follow from its history.
-use Rattle.std.proofs.Common.{◌≡◌, ℕ, zero, suc, ◌+◌, ◌<◌, ◌≤◌, Bool, true, false, cond, ◌&&◌, ◌||◌, eqb, ◌⊎◌, List, [], ◌∷◌, sym, refl, ap, ◌∙◌, ap₂, inl, inr, add-one, arith, lt-ltb}
-use Rattle.std.proofs.lemmas.Bool.Decides.{nat_tests}
-use Rattle.boards.specs.Lines.{settled, Meaning, Lawful}
+use Rattle.std.proofs.Common.{◌≡◌, ℕ, zero, suc, ◌<◌, ◌≤◌, Bool, true, false, cond, ◌&&◌, ◌||◌, eqb, sym, refl, ap, ◌∙◌, ap₂, add-one, arith, lt-ltb}
+use Rattle.boards.specs.Lines.{settled, Meaning}
 use Rattle.steps.specs.declared.go.Go.{Go}
 use Rattle.steps.specs.declared.go.Go.TheVariants.{Idle, Waits, WrongPick, MustLeave, Moves, Settles}
 use Rattle.steps.specs.declared.answers.Refusal.{Refusal}
 use Rattle.steps.specs.declared.answers.Refusal.TheVariants as ref
-use Rattle.steps.specs.Rows.{release_place, failed, to_number, merge_place}
+use Rattle.steps.specs.Rows.{release_place, failed, to_number}
 use Rattle.sets.specs.Sets.{has, plus, none, everywhere}
 use Rattle.sets.proofs.SetLaws.{has_plus, has_none}
 use Rattle.steps.specs.Table.{Table}
 use Rattle.runs.specs.Runs as runs
 use Rattle.runs.specs.Runs.{Event, start, stir, fail, take, go, leave, void, Ticket, State, Reply, done, waits, idle, refused, reply, next, run, limit, most_stations, of, of_go, goes_to, line_to, stands, is_accepted, is_done, is_go, frees, shows, limited, one_more, holds}
-use Rattle.runs.specs.Words.{Counted}
 use Rattle.junction.specs.declared.stations.Station.{Station}
 use Rattle.junction.specs.declared.counts.Counts.{Counts}
 use Rattle.junction.specs.declared.counts.Note.{Note}

@@ -10,7 +10,7 @@ use Rattle.steps.specs.Rows.{flag}
 use Rattle.steps.specs.Table.{Table}
 use Rattle.runs.specs.Laws.{LinesApart}
 use Rattle.runs.specs.Runs.{same_part, stirs}
-use Rattle.junction.specs.Wires.{on_line, heard, settled_on, loosened_on, loosened_if, stirred_board}
+use Rattle.junction.specs.Wires.{heard, settled_on, loosened_if, stirred_board}
 use Rattle.junction.proofs.Both.{clash}
 
 pub same_is : (x y : Part) → same_part x y ≡ true → x ≡ y

@@ -1,12 +1,12 @@
 -- The promise over whole runs, from the discipline's laws and the agreement of each call.
-use Rattle.std.proofs.Common.{◌≡◌, ℕ, suc, ◌<◌, ◌≤◌, Bool, true, false, cond, not, ◌&&◌, eqb, ltb, ◌≢◌, ◌⊎◌, List, [], ◌∷◌, Some, None, Option, sym, refl, ap, ◌∙◌, subst, inl, inr, arith}
+use Rattle.std.proofs.Common.{◌≡◌, ℕ, suc, ◌<◌, ◌≤◌, ◌&&◌, eqb, ltb, ◌⊎◌, List, [], ◌∷◌, Some, None, Option, sym, refl, ap, ◌∙◌, subst, inl, inr}
 use Rattle.std.proofs.lemmas.Bool.{cond_both}
 use Rattle.boards.specs.Lines.{Meaning, Lawful}
 use Rattle.steps.specs.declared.go.Go.{Go}
 use Rattle.steps.specs.declared.go.Go.TheVariants.{Idle, Waits, WrongPick, MustLeave, Moves, Settles}
-use Rattle.steps.specs.Rows.{merge_place, idle_place, failed_place, flag}
+use Rattle.steps.specs.Rows.{idle_place, failed_place, flag}
 use Rattle.steps.specs.Table.{Table}
-use Rattle.runs.specs.Runs.{Event, State, reply, next, run, made, limit, most_stations, holds, settles_some}
+use Rattle.runs.specs.Runs.{State, reply, next, run, made, limit, most_stations, holds, settles_some}
 use Rattle.runs.specs.Words.{Counted}
 use Rattle.runs.specs.Laws.{LinesApart, OneHolder, NeverStuck, InOrder, InRange}
 use Rattle.junction.specs.declared.stations.Station.{Station}
@@ -15,7 +15,7 @@ use Rattle.junction.specs.Wires.{hears, heard}
 use Rattle.junction.specs.Calls.{station, place, with_board, acted, allowed_leaves, look_of, go_of, next_go, may_take, current}
 use Rattle.junction.specs.Telling.{HolderIs}
 use Rattle.junction.specs.Making.{new_junction}
-use Rattle.junction.specs.Promise.{Call, to_start, to_stir, to_fail, to_take, to_go, to_leave, to_void, call_leaves, call_answers, after, event, history, told, replied, kept_of, Agrees, Holding, Working, OthersStay, BoardServes, SafeMerge, ServedInOrder}
+use Rattle.junction.specs.Promise.{Call, to_start, to_stir, to_fail, to_take, to_go, to_leave, to_void, call_leaves, call_answers, after, event, history, told, replied, Agrees, Holding, OthersStay, BoardServes, SafeMerge, ServedInOrder}
 use Rattle.junction.proofs.Both.{unless_both, clash}
 use Rattle.junction.proofs.Touch.{in_room}
 use Rattle.junction.proofs.Agree.{alike, call_step}

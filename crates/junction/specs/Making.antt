@@ -1,5 +1,5 @@
 -- Making a junction: what is refused, and what is made.
-use Rattle.std.specs.Prelude.{◌≡◌, ℕ, ◌*◌, ◌≤◌, min, Bool, cond, ◌&&◌, replicate, Ok, Err, Result, nat_le}
+use Rattle.std.specs.Prelude.{ℕ, ◌*◌, min, cond, ◌&&◌, replicate, Ok, Err, Result, nat_le}
 use Rattle.std.proofs.Common.{arith}
 use Rattle.boards.specs.Lines.{Meaning}
 use Rattle.steps.specs.declared.size.Size.{Size}

@@ -1,6 +1,6 @@
 -- The promise over whole runs: after any list of calls since a junction was made, it agrees with the history of these calls,
 -- at most one station holds the merge, and the stations are never stuck; under a fair discipline the first come is first served.
-use Rattle.std.specs.Prelude.{◌≡◌, ℕ, suc, ◌<◌, Bool, true, false, ◌≢◌, ◌⊎◌, List, [], ◌∷◌, Some, None, Ok, Err, Option, Result}
+use Rattle.std.specs.Prelude.{◌≡◌, ℕ, suc, ◌<◌, Bool, true, ◌≢◌, ◌⊎◌, List, [], ◌∷◌, Some, Ok, Err, Option, Result}
 use Rattle.boards.specs.Lines.{Meaning}
 use Rattle.steps.specs.declared.record.Record.{Record}
 use Rattle.steps.specs.declared.lines.Part.{Part}

@@ -1,5 +1,5 @@
 -- The table of the stations: sixteen, of which the first ones are there.
-use Rattle.std.specs.Prelude.{ℕ, Bool, true, false, cond, ◌==◌, slice_index_or, slice_set}
+use Rattle.std.specs.Prelude.{ℕ, true, false, cond, ◌==◌, slice_index_or, slice_set}
 use Rattle.steps.specs.declared.record.Record.{Record}
 use Rattle.steps.specs.Rows.{merge_place, new_record}
 use Rattle.junction.specs.declared.stations.Station.{Station}

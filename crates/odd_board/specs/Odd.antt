@@ -1,5 +1,5 @@
 -- What the odd board means: a loose line answers by the parity of the reads so far.
-use Rattle.std.specs.Prelude.{◌≡◌, ℕ, ◌+◌, ◌%◌, ◌<◌, Bool, true, false, cond, ◌≢◌, List, length, replicate, ◌==◌, slice_index_or, slice_set, refl}
+use Rattle.std.specs.Prelude.{◌≡◌, ℕ, ◌+◌, ◌%◌, ◌<◌, Bool, true, false, cond, ◌≢◌, length, replicate, ◌==◌, slice_index_or, slice_set, refl}
 use Rattle.std.proofs.Common.{sym, ◌∙◌, length-set, get_or-set_same, get_or-set_other}
 use Rattle.boards.specs.Lines.{Line, settled, loose, Meaning, Lawful}
 use Rattle.odd_board.specs.declared.board.Kept.{Kept}

@@ -1,5 +1,5 @@
 -- The end of a play: the end line is written behind the lines of the events.
-use Rattle.std.proofs.Common.{◌≡◌, ℕ, ◌+◌, ◌*◌, ◌≤◌, List, ◌++◌, length, drop, sym, refl, ap, ◌∙◌}
+use Rattle.std.proofs.Common.{◌≡◌, ℕ, ◌+◌, ◌*◌, ◌≤◌, List, ◌++◌, length, drop, sym, ap, ◌∙◌}
 use lib.Seq.{paste}
 use Rattle.boards.specs.Lines.{Meaning}
 use Rattle.steps.specs.Table.{Table}

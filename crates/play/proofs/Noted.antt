@@ -1,5 +1,5 @@
 -- What all events leave of the junction and note in the trails.
-use Rattle.std.proofs.Common.{◌≡◌, ℕ, ◌+◌, List, [], ◌∷◌, ◌++◌, Some, None, Option, sym, refl, ap, ◌∙◌}
+use Rattle.std.proofs.Common.{◌≡◌, ℕ, ◌+◌, List, [], ◌∷◌, ◌++◌, Some, None, Option, refl, ap, ◌∙◌}
 use Rattle.std.specs.Option.{option_to_list}
 use Rattle.boards.specs.Lines.{Meaning}
 use Rattle.steps.specs.Table.{Table}
@@ -10,7 +10,7 @@ use Rattle.trails.specs.Held.{Held, all_put}
 use Rattle.play.specs.declared.entries.GrantEntry.{GrantEntry}
 use Rattle.play.specs.declared.entries.RefusalEntry.{RefusalEntry}
 use Rattle.play.specs.OneEvent.{calls_of, after_event, written_of}
-use Rattle.play.specs.Plays.{noted, with_line, Scene, scene, played}
+use Rattle.play.specs.Plays.{noted, with_line, scene, played}
 use Rattle.play.specs.Report.{end_of, all_calls, grants_of, refusals_of}
 
 put_noted : {X : Type 0} (h : Held X) (o : Option X) (xs : List X) → all_put (noted h o) xs ≡ all_put h (option_to_list o ++ xs)

@@ -2,11 +2,8 @@
 use Rattle.std.proofs.Common.{◌≡◌, ℕ, List, [], ◌∷◌, length, Ok, Err, Result, sym, refl, ap, ◌∙◌, subst, ap₂, arith, Bor}
 use lib.Seq.{paste}
 use Rattle.boards.specs.Lines.{Meaning}
-use Rattle.boards.specs.declared.hold.Hold.{Hold}
-use Rattle.boards.specs.declared.tape.Tape.{Tape}
 use Rattle.boards.specs.Hold.{hold, new_hold}
 use Rattle.boards.specs.Tape.{tape, new_tape}
-use Rattle.steps.specs.Table.{Table}
 use Rattle.disciplines.specs.declared.four_line.FourLine.{FourLine}
 use Rattle.disciplines.specs.declared.plain.Plain.{Plain}
 use Rattle.steps.specs.FourLine.{four_line}

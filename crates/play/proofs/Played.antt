@@ -1,5 +1,5 @@
 -- One turn of the loop over the events, and the end of it.
-use Rattle.std.proofs.Common.{◌≡◌, ℕ, zero, suc, ◌+◌, ◌<◌, ◌≤◌, List, [], ◌∷◌, length, drop, Some, None, sym, refl, ap, ◌∙◌, add-one, arith}
+use Rattle.std.proofs.Common.{◌≡◌, ℕ, zero, suc, ◌+◌, ◌<◌, ◌≤◌, List, [], ◌∷◌, length, drop, Some, None, sym, ap, add-one, arith}
 use Rattle.schedule.specs.Events.{nth}
 use Rattle.std.proofs.lemmas.List.{at_drop_all}
 use Rattle.boards.specs.Lines.{Meaning}

@@ -1,16 +1,15 @@
 -- What all events of a schedule do, one after another: to the junction, to the bytes of the report and to the two trails.
-use Rattle.std.specs.Prelude.{ℕ, ◌+◌, ◌*◌, ◌/◌, cond, List, [], ◌∷◌, ◌++◌, length, Some, None, Option, nat_lt}
+use Rattle.std.specs.Prelude.{ℕ, ◌+◌, ◌*◌, ◌/◌, cond, List, [], ◌∷◌, length, Some, None, Option, nat_lt}
 use Rattle.std.proofs.Math.Seq.{paste}
 use Rattle.boards.specs.Lines.{Meaning}
 use Rattle.steps.specs.Table.{Table}
 use Rattle.junction.specs.declared.state.Junction.{Junction}
-use Rattle.junction.specs.Promise.{Call}
 use Rattle.schedule.specs.declared.event.Event.{Event}
 use Rattle.trails.specs.Held.{Held, put_onto}
 use Rattle.play.specs.declared.entries.GrantEntry.{GrantEntry}
 use Rattle.play.specs.declared.entries.RefusalEntry.{RefusalEntry}
 use Rattle.play.specs.declared.event.Written.{Written}
-use Rattle.play.specs.OneEvent.{calls_of, after_event, written_of}
+use Rattle.play.specs.OneEvent.{after_event, written_of}
 
 -- A trail after what there was to note.
 unfoldable pub noted : {X : Type 0} → Held X → Option X → Held X

@@ -2,7 +2,7 @@
 use Rattle.std.specs.Prelude.{◌≡◌, ℕ, suc, ◌<◌, ◌≤◌, Bool, true, ◌≢◌, ◌⊎◌, List, [], ◌∷◌, ◌++◌}
 use Rattle.steps.specs.Rows.{idle_place}
 use Rattle.steps.specs.Table.{Table}
-use Rattle.runs.specs.Runs.{Event, start, go, leave, Ticket, State, run, reply, accepted, is_done, holds, of, frees}
+use Rattle.runs.specs.Runs.{Event, start, go, leave, Ticket, run, reply, accepted, is_done, holds, of, frees}
 
 module _ (t : Table) (N name : ℕ) where
   abbrev pub Holds : List Event → ℕ → Type 0

@@ -1,13 +1,11 @@
 -- A plan within the limits, written as bytes, decodes to that plan.
-use Rattle.std.proofs.Common.{◌≡◌, ℕ, suc, ◌+◌, ◌*◌, ◌/◌, ◌%◌, ◌≤◌, true, List, [], ◌∷◌, ◌++◌, length, take, drop, is_some, Some, None, Ok, Option, Result, sym, refl, ap, ◌∙◌, arith, length-append}
+use Rattle.std.proofs.Common.{◌≡◌, ℕ, suc, ◌+◌, ◌*◌, ◌/◌, ◌%◌, true, List, [], ◌∷◌, ◌++◌, length, take, drop, is_some, Some, None, Ok, Option, Result, sym, refl, ap, ◌∙◌, arith, length-append}
 use Rattle.std.proofs.lemmas.List.{take_at, drop_at, drop-drop}
-use Rattle.std.specs.Option.{option_to_list}
 use Rattle.schedule.specs.declared.event.Event.{Event}
 use Rattle.schedule.specs.declared.event.Event.TheVariants.{Start, Go, Stir, Fail, Leave}
 use Rattle.schedule.specs.declared.discipline.DisciplineKind.{DisciplineKind}
 use Rattle.schedule.specs.declared.discipline.DisciplineKind.TheVariants.{FourLine, Plain}
 use Rattle.schedule.specs.declared.refusal.Refusal.{Refusal}
-use Rattle.schedule.specs.Limits.{longest}
 use Rattle.schedule.specs.Letters.{discipline_letter, discipline_of, event_of, letter_of, station_of, pick_of}
 use Rattle.schedule.specs.Events.{first_unknown, events_of}
 use Rattle.schedule.specs.Decode.{Plan, plan_in, with_body, decode}

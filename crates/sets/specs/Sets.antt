@@ -1,5 +1,5 @@
 -- Sets of numbers below 32: what has which members. Only this file and the laws of sets look at the bits.
-use Rattle.std.specs.Prelude.{ℕ, zero, suc, ◌+◌, ◌-◌, ◌/◌, ◌%◌, ◌^◌, ◌<◌, Bool, true, false, cond, not, ◌&&◌, ◌==◌, bit_xor, nat_lt}
+use Rattle.std.specs.Prelude.{ℕ, zero, suc, ◌+◌, ◌-◌, ◌/◌, ◌%◌, ◌^◌, Bool, true, false, cond, not, ◌&&◌, ◌==◌, bit_xor, nat_lt}
 use Rattle.sets.specs.declared.Set.{Set}
 
 abbrev pub of_bits : ℕ → Set

@@ -1,5 +1,5 @@
 -- Of two stations, 0 has raised its turn when 1 starts: 1 waits behind 0.
-use Rattle.std.proofs.Common.{◌≡◌, ℕ, zero, suc, ◌+◌, ◌-◌, ◌<◌, ◌≤◌, true, false, ltb, List, [], ◌∷◌, ◌++◌, sym, refl, ap, ◌∙◌, subst, inl, inr, arith}
+use Rattle.std.proofs.Common.{◌≡◌, ℕ, zero, suc, ◌<◌, ◌≤◌, true, false, ltb, List, [], ◌∷◌, ◌++◌, sym, refl, ap, ◌∙◌, subst, inl, inr, arith}
 use Rattle.std.proofs.lemmas.Bool.{cases_Bool, ltb-true}
 use Rattle.boards.specs.Hold.{hold, hold_lawful}
 use Rattle.steps.specs.declared.lines.Part.TheVariants.{Turn}
@@ -28,7 +28,7 @@ use Rattle.worked.proofs.Behind.TurnLine.{turn_line, Fits, LastHigh, by_start, b
 use Rattle.worked.proofs.Lone.Alone as lone
 use Rattle.worked.proofs.Lone.FourFit.{high, Rests, Fit}
 use Rattle.worked.proofs.Lone.Four.{yet, four_walk}
-use Rattle.worked.proofs.Behind.Steps.{InWay, Raised, Behind, high_go, now, waits_27, pick, moves}
+use Rattle.worked.proofs.Behind.Steps.{InWay, Raised, Behind, high_go, waits_27, pick, moves}
 use Rattle.worked.proofs.Behind.Two.{Two, seen_0, seen_1, reads_27, two_go_0, two_go_1, two_stir_0, two_stir_1, two_other, starts_1, begins, only_0}
 
 module _ (name : ℕ) (picks : List ℕ) (at-25 : At25 (four_line_junction 2 name) picks) where

@@ -2,7 +2,7 @@
 use Rattle.std.proofs.Common.{◌≡◌, ℕ, suc, ◌+◌, ◌-◌, ◌*◌, ◌<◌, ◌≤◌, Bool, true, cond, eqb, ◌≢◌, ◌⊎◌, sym, refl, ap, ◌∙◌, inl, inr, arith}
 use Rattle.std.proofs.lemmas.Bool.Decides.{nat_tests}
 use Rattle.steps.specs.declared.answers.Refusal.TheVariants.{WrongPick}
-use Rattle.sets.specs.Sets.{is_none, above}
+use Rattle.sets.specs.Sets.{is_none}
 use Rattle.sets.specs.declared.Set.{Set}
 use Rattle.steps.specs.declared.contest.Contest.TheVariants.{RaiseClaim, LookBelow, LowerClaim, AwaitLower, PickAbove, AwaitAbove, Release}
 use Rattle.steps.specs.declared.four_line.FourPlace.{FourPlace}

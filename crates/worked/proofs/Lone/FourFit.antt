@@ -1,9 +1,9 @@
 -- What a station of the four-line discipline keeps while it alone is started: all that it reads is low.
-use Rattle.std.proofs.Common.{◌≡◌, ℕ, ◌-◌, ◌*◌, ◌/◌, ◌<◌, ◌≤◌, Bool, true, false, cond, not, ◌≢◌, ◌⊎◌, refl, ap, ◌∙◌, inl, inr, arith}
+use Rattle.std.proofs.Common.{◌≡◌, ℕ, ◌*◌, ◌/◌, ◌<◌, ◌≤◌, Bool, true, false, cond, not, ◌≢◌, ◌⊎◌, refl, ap, ◌∙◌, inl, inr, arith}
 use Rattle.std.proofs.lemmas.Bool.Decides.{nat_tests}
 use Rattle.std.proofs.lemmas.Bool.{cases_eq}
 use Rattle.boards.specs.Lines.{Line, settled}
-use Rattle.sets.specs.Sets.{has, above}
+use Rattle.sets.specs.Sets.{has}
 use Rattle.steps.specs.FourLine.{four_line, view, label, odd}
 use Rattle.runs.specs.Runs.{Own, new_own, went, after}
 use Rattle.sets.proofs.SetLaws.{without_at, first_at, above_at, member, member_in}

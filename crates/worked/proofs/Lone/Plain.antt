@@ -3,7 +3,7 @@ use Rattle.std.proofs.Common.{◌≡◌, ℕ, suc, ◌+◌, ◌-◌, ◌*◌, �
 use Rattle.std.proofs.lemmas.Bool.Decides.{nat_tests}
 use Rattle.boards.specs.Lines.{settled}
 use Rattle.steps.specs.declared.answers.Refusal.TheVariants.{WrongPick}
-use Rattle.sets.specs.Sets.{has, above}
+use Rattle.sets.specs.Sets.{has}
 use Rattle.steps.specs.Plain.{plain, view, label}
 use Rattle.runs.specs.Runs.{Own, went, after, is_done, refused}
 use Rattle.sets.proofs.SetLaws.{without_at, first_at, above_at, member, member_in}

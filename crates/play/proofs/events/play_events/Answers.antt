@@ -1,4 +1,4 @@
-use Rattle.std.proofs.Common.{◌≡◌, ◌<◌, length, sym, ◌∙◌, arith}
+use Rattle.std.proofs.Common.{◌<◌, length, sym, ◌∙◌, arith}
 use Rattle.schedule.specs.View.{plan}
 use Rattle.play.specs.Plays.{scene}
 use Rattle.trails.specs.Meaning.{held}

@@ -1,4 +1,4 @@
-use Rattle.std.proofs.Common.{◌≡◌, length, drop}
+use Rattle.std.proofs.Common.{◌≡◌, drop}
 use Rattle.schedule.specs.View.{plan}
 use Rattle.play.specs.Plays.{scene, played}
 use Rattle.trails.specs.Meaning.{held}

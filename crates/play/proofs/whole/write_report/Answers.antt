@@ -1,4 +1,4 @@
-use Rattle.std.proofs.Common.{◌≡◌, ℕ, length, sym, refl, ap, ◌∙◌, subst, arith, rules}
+use Rattle.std.proofs.Common.{◌≡◌, length, refl, subst, rules}
 use Rattle.trails.specs.Meaning.{held}
 use Rattle.schedule.specs.Decode.{decode}
 use Rattle.schedule.specs.View.{plan}
@@ -6,7 +6,7 @@ use Rattle.boards.specs.declared.hold.Hold.{Hold}
 use Rattle.boards.specs.declared.tape.Tape.{Tape}
 use Rattle.boards.specs.Hold.{hold}
 use Rattle.boards.specs.Tape.{tape}
-use Rattle.play.specs.Report.{Shown, Stands, shown_on, EndsByCalls}
+use Rattle.play.specs.Report.{Stands, shown_on, EndsByCalls}
 use Rattle.play.proofs.Over.{shows_refusal, shows_held, shows_taped, refusal_stands}
 use Rattle.play.proofs.Noted.{end_by_calls}
 use Rattle.play.proofs.whole.write_report.Goals as goal

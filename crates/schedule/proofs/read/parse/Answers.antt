@@ -1,9 +1,8 @@
-use Rattle.std.proofs.Common.{◌≡◌, ◌+◌, ◌≤◌, length, IfOk, Ok, Err, Result, arith, length-drop, rules}
+use Rattle.std.proofs.Common.{◌≡◌, ◌≤◌, length, IfOk, Ok, Err, Result, arith, length-drop, rules}
 use Rattle.std.proofs.lemmas.List.{take_rest}
 use Rattle.schedule.specs.declared.refusal.Refusal.{Refusal}
 use Rattle.schedule.specs.declared.refusal.Refusal.TheVariants.{TooLong, NoHeader}
 use Rattle.schedule.specs.declared.view.Schedule.{Schedule}
-use Rattle.schedule.specs.Limits.{longest}
 use Rattle.schedule.specs.Decode.{decode}
 use Rattle.schedule.specs.Encode.{Fits}
 use Rattle.schedule.specs.View.{plan, answer}
