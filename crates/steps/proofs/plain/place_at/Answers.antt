@@ -1,5 +1,5 @@
 use Rattle.steps.specs.Plain.{view}
-use Rattle.steps.proofs.plain.PlainPlace.at.Goals as goal
+use Rattle.steps.proofs.plain.place_at.Goals as goal
 
 pub returns : goal.returns
 unfolding view

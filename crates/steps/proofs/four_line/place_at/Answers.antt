@@ -1,5 +1,5 @@
 use Rattle.steps.specs.FourLine.{view}
-use Rattle.steps.proofs.four_line.FourPlace.at.Goals as goal
+use Rattle.steps.proofs.four_line.place_at.Goals as goal
 
 pub returns : goal.returns
 unfolding view
