@@ -3,21 +3,22 @@
 # make speed   instructions per event, wall time and memory of the bench and of the second program
 
 SAMPLE = samples/three_belts.txt
-BENCH = target/bin/bench
+BENCH = crates/bench/out/bench
 
 .PHONY: run test speed count
 
 run: $(BENCH)
 	tools/schedule $(SAMPLE) | $(BENCH)
 
-$(BENCH): crates.txt $(shell find crates -name '*.rt' -o -name '*.antt')
-	rt check bench
+$(BENCH): crates.txt $(shell find crates -path '*/out' -prune -o \( -name '*.rt' -o -name '*.antt' \) -print)
+	@echo "proving and building the bench"
+	@cd crates/bench && said=$$(rt run <stdin 2>&1) || { echo "$$said"; exit 1; }
 	@touch $(BENCH)
 
 test:
 	bash .ci/run
 
-speed:
+speed: $(BENCH)
 	tools/speed
 
 count:
