@@ -1,12 +1,8 @@
 //! The four-line discipline: a door, a claim and two turns for each station. First come, first served.
 ghost use Rattle.std.specs.Prelude.{◌≡◌, ℕ};
 ghost use Rattle.steps.specs.FourLine.{four_line, label, view, offset};
-ghost use borrow.Author.Rules.{rules};
 ghost use Rattle.runs.proofs.LinesApart.{four_lines};
-ghost use Rattle.std.proofs.Common.{arith};
-ghost use Rattle.runs.proofs.OneHolder.{one_holder};
-ghost use Rattle.runs.proofs.FourContest;
-ghost use Rattle.runs.proofs.FourContest.{four_contest, four_shaped};
+ghost use Rattle.runs.proofs.Tables.{four_back, four_one};
 ghost use Rattle.runs.proofs.Four.Moves.{four_moves};
 ghost use Rattle.runs.proofs.Four.Ranges.{four_range};
 
@@ -29,11 +25,11 @@ impl Discipline for FourLine {
 
     ghost viewed = { view };
 
-    ghost back = { unfold view in Prim.search rules };
+    ghost back = { four_back };
 
     ghost apart = { four_lines };
 
-    ghost holder = { one_holder four_line 34 FourContest.Place four_contest four_shaped (omega arith) (omega arith) };
+    ghost holder = { four_one };
 
     ghost moving = { four_moves };
 

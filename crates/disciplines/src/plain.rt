@@ -1,12 +1,8 @@
 //! The plain discipline: one line, the claim, for each station, and nothing but the contest.
 ghost use Rattle.std.specs.Prelude.{◌≡◌, ℕ};
 ghost use Rattle.steps.specs.Plain.{plain, label, view};
-ghost use borrow.Author.Rules.{rules};
 ghost use Rattle.runs.proofs.LinesApart.{plain_lines};
-ghost use Rattle.std.proofs.Common.{arith};
-ghost use Rattle.runs.proofs.OneHolder.{one_holder};
-ghost use Rattle.runs.proofs.PlainContest;
-ghost use Rattle.runs.proofs.PlainContest.{plain_contest, plain_shaped};
+ghost use Rattle.runs.proofs.Tables.{plain_back, plain_one};
 ghost use Rattle.runs.proofs.PlainMoves.{plain_moves};
 ghost use Rattle.runs.proofs.PlainRanges.{plain_range};
 
@@ -29,11 +25,11 @@ impl Discipline for Plain {
 
     ghost viewed = { view };
 
-    ghost back = { unfold view in Prim.search rules };
+    ghost back = { plain_back };
 
     ghost apart = { plain_lines };
 
-    ghost holder = { one_holder plain 37 PlainContest.Place plain_contest plain_shaped (omega arith) (omega arith) };
+    ghost holder = { plain_one };
 
     ghost moving = { plain_moves };
 

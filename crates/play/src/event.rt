@@ -1,5 +1,5 @@
 //! One event.
-ghost use Rattle.std.specs.Prelude.{◌≡◌, ltb, if◌then◌else◌, Some, None};
+ghost use Rattle.std.specs.Prelude.{◌≡◌, nat_lt, if◌then◌else◌, Some, None};
 ghost use Rattle.junction.specs.Calls.{take_answers, take_leaves};
 ghost use Rattle.play.specs.OneEvent.{left_answers, left_leaves, answer, after_event, place_shown, refusal_of, written_of};
 
@@ -82,7 +82,7 @@ fn refusal_entry(
 
 // A grant is noted where the junction's count of them rose.
 fn grant_entry(before: u64, after: u64, station: u8, rounds: u64) -> Option<GrantEntry>
-    ensures { result ≡ (if ltb before after then Some (record { station = station; rounds = rounds }) else None) }
+    ensures { result ≡ (if nat_lt before after then Some (record { station = station; rounds = rounds }) else None) }
 {
     if before < after {
         Some(GrantEntry { station, rounds })

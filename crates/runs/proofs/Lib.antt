@@ -15,3 +15,4 @@ pub mod PlainMoves
 pub mod PlainRanges
 pub mod Four
 pub mod Unread
+pub mod Tables

@@ -1,5 +1,4 @@
 pub mod Base
-pub mod Tables
 pub mod Easy
 pub mod Short
 pub mod Failing

@@ -20,7 +20,7 @@ use Rattle.junction.specs.Promise.{Call, to_start, to_stir, to_fail, to_take, to
 use Rattle.worked.specs.Lone.{start_and_goes}
 use Rattle.worked.specs.Behind.{At25, since, Stays, WaitsBehind}
 use Rattle.worked.specs.Worked.{four_line_junction}
-use Rattle.worked.proofs.Tables.{four_one}
+use Rattle.runs.proofs.Tables.{four_one}
 use Rattle.worked.proofs.Base.{agree, go_reply, go_own, heard_by}
 use Rattle.junction.specs.Wires.{hears}
 use Rattle.worked.proofs.Short.{done_answers}

@@ -15,7 +15,7 @@ use Rattle.runs.proofs.Calls.{others, named}
 use Rattle.junction.specs.declared.stations.Station.{Station}
 use Rattle.junction.specs.declared.state.Junction.{Junction}
 use Rattle.junction.specs.Calls.{place, go_answers}
-use Rattle.junction.specs.Promise.{Call, to_start, to_stir, to_fail, to_take, to_go, to_leave, to_void, named as NamedBy, after, event, told, replied, Agrees}
+use Rattle.junction.specs.Promise.{Call, to_start, to_stir, to_fail, to_take, to_go, to_leave, to_void, named as named_by, after, event, told, replied, Agrees}
 use Rattle.worked.specs.Lone.{OnlyOf, start_and_goes, went, AllDone, ArrivesAfter}
 use Rattle.worked.proofs.Base as base
 use Rattle.worked.proofs.Base.{agree, go_own, go_reply, go_used}
@@ -70,7 +70,7 @@ module _ {D : Type 0} (t : Table) (apart : LinesApart t) (one : OneHolder t) (d 
   promised = agree t apart one d N name
 
   -- while only p is called, the others are as made
-  named_is : (i : Junction D Hold) (c : Call) → of (event t hold i c) ≡ NamedBy c
+  named_is : (i : Junction D Hold) (c : Call) → of (event t hold i c) ≡ named_by c
   named_is i (to_start q) = refl
   named_is i (to_stir q) = refl
   named_is i (to_fail q) = refl

@@ -11,7 +11,7 @@ use Rattle.boards.specs.Hold.{hold}
 use Rattle.junction.specs.Promise.{Call, told, history}
 use Rattle.worked.specs.Lone.{OnlyOf, ArrivesAfter}
 use Rattle.worked.specs.Worked.{plain_junction, four_line_junction}
-use Rattle.worked.proofs.Tables.{plain_one, four_one}
+use Rattle.runs.proofs.Tables.{plain_one, four_one}
 use Rattle.worked.proofs.Base.{size_is}
 use Rattle.worked.proofs.Lone.Alone.{Walk, arrives}
 use Rattle.worked.proofs.Lone.Plain as plains

@@ -2,7 +2,7 @@ use Rattle.std.proofs.Common.{true, false, refl, arith}
 use Rattle.steps.specs.FourLine.{four_line}
 use Rattle.steps.specs.Plain.{plain}
 use Rattle.runs.proofs.LinesApart.{four_lines, plain_lines}
-use Rattle.worked.proofs.Tables.{four_one, plain_one}
+use Rattle.runs.proofs.Tables.{four_one, plain_one}
 use Rattle.worked.proofs.Easy.{checked, loose_read, plain_must_leave, four_must_leave, not_voided}
 use Rattle.worked.proofs.Short.{starts_once, stirs_at_door, picks_turn}
 use Rattle.worked.proofs.Failing.{fails_with_pass}
