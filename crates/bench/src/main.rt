@@ -1,8 +1,6 @@
 //! Plays the schedule on standard input and prints its report.
 #![tactic(auto)]
 
-ghost use Rattle.std.specs.Prelude.{◌≤◌, length, IfOk};
-
 use play::{GrantEntry, REPORT_BYTES, RefusalEntry, write_report};
 use schedule::Event;
 use std::io;
@@ -15,28 +13,14 @@ const INPUT_BYTES: usize = 60_001;
 /// How many grants, and how many refusals, are kept.
 const KEPT: usize = 64;
 
-// Reads until the buffer is full or the input ends, and tells how many bytes came.
-fn fill<R: Read>(from: &mut R, buf: &mut [u8]) -> io::Result<usize>
-    ensures { IfOk result (λ n. n ≤ length buf.old) }
-{
-    let mut at = 0;
-    while at < buf.len() {
-        let n = from.read(&mut buf[at..])?;
-        if n == 0 {
-            break;
-        }
-        at += n;
-    }
-    Ok(at)
-}
-
 fn main(rt: HostRuntime) -> io::Result<()> {
+    // An array and no `Vec`, which would stand on the C library's heap too.
     let mut input = [0u8; INPUT_BYTES];
-    let length = fill(&mut rt.stdin(), &mut input)?;
-    let mut granted = [GrantEntry {
-        station: 0,
-        rounds: 0,
-    }; KEPT];
+    let mut room = &mut input[..];
+    io::copy(&mut rt.stdin().take(INPUT_BYTES as u64), &mut room)?;
+    let length = INPUT_BYTES.saturating_sub(room.len());
+    let mut granted = [GrantEntry::default(); KEPT];
+    // Written out: an event has no derived default, as each of its cases holds a station.
     let mut refused = [RefusalEntry {
         event: Event::Start { station: 0 },
         index: 0,
@@ -45,6 +29,6 @@ fn main(rt: HostRuntime) -> io::Result<()> {
     let mut grants = Trail::new(&mut granted);
     let mut refusals = Trail::new(&mut refused);
     let mut out = [0u8; REPORT_BYTES];
-    let n = write_report(&input[0..length], &mut out, &mut grants, &mut refusals);
-    rt.stdout().write_all(&out[0..n.min(out.len())])
+    let n = write_report(&input[..length], &mut out, &mut grants, &mut refusals);
+    rt.stdout().write_all(&out[..n])
 }

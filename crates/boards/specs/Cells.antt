@@ -15,6 +15,10 @@ low_cell = record { last = false; loose = false }
 abbrev pub shown : Cell → Line
 shown c = cond c.loose loose (settled c.last)
 
+-- A cell that is not loose answers its value, whatever reads it.
+abbrev pub AnswersSettled : {R : Type 0} → (R → Cell → Bool) → Type 0
+AnswersSettled {R} answers = (r : R) (c : Cell) → c.loose ≡ false → answers r c ≡ c.last
+
 abbrev pub size : Cells → ℕ
 size b = min b.asked (length b.cells)
 
@@ -25,7 +29,7 @@ abbrev pub line_at : Cells → ℕ → Line
 line_at b i = shown (cell_at b i)
 
 abbrev pub with_cell : Cells → ℕ → Cell → Cells
-with_cell b i c = record { cells = slice_set b.cells i c; asked = b.asked }
+with_cell b i c = record b { cells = slice_set b.cells i c }
 
 -- A loose line keeps the value that was last settled.
 abbrev pub with_loose : Cells → ℕ → Cells

@@ -1,15 +1,19 @@
 -- What the tape board means: a loose line answers the next bit of the noise, 1 for high.
-use Rattle.std.specs.Prelude.{◌≡◌, ℕ, ◌+◌, ◌-◌, ◌/◌, ◌%◌, ◌^◌, Bool, true, false, cond, List, length, ◌==◌, nat_lt, slice_index, refl}
-use Rattle.std.proofs.Common.{ap}
+use Rattle.std.specs.Prelude.{◌≡◌, ℕ, ◌+◌, ◌-◌, ◌/◌, ◌%◌, ◌^◌, Bool, cond, List, length, ◌==◌, nat_lt, slice_index}
 use Rattle.std.specs.Borrow.{Bor}
-use Rattle.boards.specs.Lines.{settled, loose, Meaning, Lawful}
+use Rattle.boards.specs.Lines.{loose, Meaning, Lawful}
 use Rattle.boards.specs.Runs.{Call, after, loose_reads}
-use Rattle.boards.specs.Cells.{size, cell_at, line_at, with_loose, with_settled, new_cells, size_kept, line_same, line_other}
-use Rattle.boards.specs.declared.cells.Cells.{Cells}
-use Rattle.boards.specs.declared.tape.Tape.{Tape}
+use Rattle.boards.specs.Cells.{AnswersSettled}
+use Rattle.boards.specs.CellBoard.{cell_board, cell_board_lawful, new_board}
+use Rattle.boards.specs.declared.cells.Cell.{Cell}
+use Rattle.boards.specs.declared.cell_board.CellBoard.{CellBoard}
+use Rattle.boards.specs.declared.tape.Noise.{Noise}
+
+abbrev pub Tape : Type 0
+Tape = CellBoard Noise
 
 abbrev pub new_tape : ℕ → Bor (List ℕ) → Tape
-new_tape n noise = record { cells = new_cells n; noise = noise; byte = 0; bit = 0 }
+new_tape n noise = new_board n (record { bytes = noise; byte = 0; bit = 0 })
 
 -- Whether bit k of a byte is 1, counted from the lowest.
 abbrev pub bit_of : ℕ → ℕ → Bool
@@ -20,52 +24,28 @@ abbrev pub byte_behind : ℕ → ℕ → ℕ
 byte_behind i n = cond (nat_lt i (n - 1)) (i + 1) 0
 
 -- An empty tape has no byte, and gives low.
-abbrev pub next_bit : Tape → Bool
-next_bit b = bit_of (slice_index b.noise.now b.byte) b.bit
+abbrev pub next_bit : Noise → Bool
+next_bit r = bit_of (slice_index r.bytes.now r.byte) r.bit
 
 -- One bit further.
-abbrev pub onward : Tape → Tape
-onward b = record {
-  cells = b.cells;
-  noise = b.noise;
-  byte = cond (nat_lt b.bit 7) b.byte (byte_behind b.byte (length b.noise.now));
-  bit = cond (nat_lt b.bit 7) (b.bit + 1) 0;
-}
-
-abbrev pub with_cells : Tape → Cells → Tape
-with_cells b c = record { cells = c; noise = b.noise; byte = b.byte; bit = b.bit }
+abbrev pub after_bit : Noise → Noise
+after_bit r = record r { byte = cond (nat_lt r.bit 7) r.byte (byte_behind r.byte (length r.bytes.now)); bit = cond (nat_lt r.bit 7) (r.bit + 1) 0 }
 
 -- Only a read of a loose line takes a bit.
+abbrev pub noise_answers : Noise → Cell → Bool
+noise_answers r c = cond c.loose (next_bit r) c.last
+
+abbrev pub noise_onward : Noise → Cell → Noise
+noise_onward r c = cond c.loose (after_bit r) r
+
+pub noise_settled : AnswersSettled noise_answers
+noise_settled r c e = rw e
+
 abbrev pub tape : Meaning Tape
-tape = record {
-  count = λ b. size b.cells;
-  line = λ b i. line_at b.cells i;
-  answer = λ b i. cond (cell_at b.cells i).loose (next_bit b) (cell_at b.cells i).last;
-  after_read = λ b i. cond (cell_at b.cells i).loose (onward b) b;
-  loosened = λ b i. with_cells b (with_loose b.cells i);
-  set_to = λ b i v. with_cells b (with_settled b.cells i v);
-}
-
-answers : (last next loosed v : Bool) → cond loosed loose (settled last) ≡ settled v → cond loosed next last ≡ v
-answers last next true v e = cc
-answers last next false v e = cc
-
-cells_kept : (loosed : Bool) (b : Tape) → (cond loosed (onward b) b).cells ≡ b.cells
-cells_kept true b = refl
-cells_kept false b = refl
+tape = cell_board noise_answers noise_onward
 
 pub tape_lawful : Lawful tape
-tape_lawful = record {
-  settled_answers = λ b i v h e. answers _ _ _ v e;
-  read_count = λ b i. ap size (cells_kept (cell_at b.cells i).loose b);
-  read_line = λ b i j. ap (λ c. line_at c j) (cells_kept (cell_at b.cells i).loose b);
-  loosen_count = λ b i. size_kept b.cells i _;
-  loosen_same = λ b i h. line_same b.cells i _ h;
-  loosen_other = λ b i j h ne. line_other b.cells i j _ ne;
-  settle_count = λ b i v. size_kept b.cells i _;
-  settle_same = λ b i v h. line_same b.cells i _ h;
-  settle_other = λ b i j v h ne. line_other b.cells i j _ ne;
-}
+tape_lawful = cell_board_lawful noise_answers noise_onward noise_settled
 
 -- Bit k of all the noise, which goes round.
 abbrev pub noise_bit : List ℕ → ℕ → Bool

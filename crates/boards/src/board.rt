@@ -1,24 +1,44 @@
 //! The four calls that every board offers.
-ghost use Rattle.std.specs.Prelude.{◌≡◌, Ok, Err};
+ghost use Rattle.std.specs.Prelude.{◌≡◌, Some, Ok, Err};
 ghost use Rattle.boards.specs.Lines.{Meaning, Lawful, within};
-ghost use Rattle.boards.specs.Refusals.{refused_number};
+ghost use Rattle.boards.specs.Refusals.{refused_number, refused_text};
+
+use numbers::Numbered;
+use std::error::Error;
+use std::fmt;
 
 /// Why a call on a board is refused.
-#[derive(Clone, Copy, Debug, PartialEq)]
+#[derive(Clone, Copy, Debug, PartialEq, Eq)]
 pub enum Refused {
     /// The line number is not below the count.
-    NoLine,
+    NoLine = 30,
 }
 
-impl Refused {
-    /// The number of the refusal.
-    pub fn number(self) -> u8
-        ensures { result ≡ refused_number self }
-    {
-        match self {
-            Refused::NoLine => 30,
-        }
+impl Numbered for Refused {
+    ghost numbered = { refused_number };
+
+    fn number(self) -> u8 {
+        self as u8
     }
+}
+
+impl fmt::Display for Refused {
+    ghost output = { λ refused. Some (refused_text refused) };
+
+    fn fmt<W: fmt::Write>(&self, f: &mut fmt::Formatter<W>) -> fmt::Result {
+        f.write_str(match self {
+            Refused::NoLine => "no line of that number",
+        })
+    }
+}
+
+impl Error for Refused {}
+
+/// The line itself, where it is one of so many.
+pub fn known_line(line: usize, count: usize) -> Result<usize, Refused>
+    ensures { result ≡ within line count (Ok line) (Err Refused.NoLine) }
+{
+    (line < count).then_some(line).ok_or(Refused::NoLine)
 }
 
 /// A flag memory of numbered lines (the field's word for a line: safe register).
@@ -27,9 +47,6 @@ impl Refused {
 pub trait Board {
     // The lines, what a read answers, and the board that each call leaves.
     ghost meaning: { Meaning Self };
-
-    // What every board keeps of that.
-    ghost lawful: { Lawful meaning };
 
     /// How many lines there are; they are numbered from 0.
     fn count(&self) -> usize
@@ -49,4 +66,7 @@ pub trait Board {
     fn settle(&mut self, line: usize, high: bool) -> Result<(), Refused>
         ensures answers { result ≡ within line (meaning.count self.old) (Ok tt) (Err Refused.NoLine) }
         ensures leaves { self.new ≡ within line (meaning.count self.old) (meaning.set_to self.old line high) self.old };
+
+    // The law of boards: what each keeps of its meaning.
+    ghost lawful: { Lawful meaning };
 }

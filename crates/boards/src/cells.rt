@@ -3,19 +3,21 @@ ghost use Rattle.std.specs.Prelude.{◌≡◌, ◌≤◌, Ok, Err};
 ghost use Rattle.boards.specs.Lines.{within};
 ghost use Rattle.boards.specs.Cells.{most_lines, size, cell_at, new_cells, with_loose, with_settled};
 
-use crate::board::Refused;
+use crate::board::{Refused, known_line};
 
 /// How many lines a board over cells has at most.
 const MOST_LINES: usize = 64;
 
 /// One line: the value last settled there, and whether it is loose now.
-#[derive(Clone, Copy)]
-pub(crate) struct Cell {
-    pub(crate) last: bool,
-    pub(crate) loose: bool,
+// Two flags and no enum with a value in each variant: a loose line has its last value as a settled one does.
+#[derive(Clone, Copy, Debug, Default, PartialEq, Eq)]
+pub struct Cell {
+    pub last: bool,
+    pub loose: bool,
 }
 
 /// Lines from 0, as many as asked for, up to `MOST_LINES`.
+// An array and a number beside it: the chip has no heap.
 #[derive(Drop)]
 pub(crate) struct Cells {
     cells: [Cell; MOST_LINES],
@@ -27,12 +29,8 @@ impl Cells {
     pub(crate) fn new(lines: usize) -> Cells
         ensures { result ≡ new_cells lines }
     {
-        let low = Cell {
-            last: false,
-            loose: false,
-        };
         Cells {
-            cells: [low; MOST_LINES],
+            cells: [Cell::default(); MOST_LINES],
             asked: lines,
         }
     }
@@ -42,18 +40,14 @@ impl Cells {
         ensures value { result ≡ size self.now }
         ensures few { result ≤ most_lines }
     {
-        let cells: &[Cell] = &self.cells;
-        self.asked.min(cells.len())
+        self.asked.min(self.cells.len())
     }
 
     // The cell of a line.
     pub(crate) fn get(&self, line: usize) -> Result<Cell, Refused>
         ensures { result ≡ within line (size self.now) (Ok (cell_at self.now line)) (Err Refused.NoLine) }
     {
-        if line >= self.count() {
-            return Err(Refused::NoLine);
-        }
-        Ok(self.cells[line])
+        Ok(self.cells[known_line(line, self.count())?])
     }
 
     // A loose line keeps the value last settled there.
@@ -61,10 +55,8 @@ impl Cells {
         ensures answers { result ≡ within line (size self.old) (Ok tt) (Err Refused.NoLine) }
         ensures leaves { self.new ≡ within line (size self.old) (with_loose self.old line) self.old }
     {
-        if line >= self.count() {
-            return Err(Refused::NoLine);
-        }
-        self.cells[line].loose = true;
+        let i = known_line(line, self.count())?;
+        self.cells[i].loose = true;
         Ok(())
     }
 
@@ -72,10 +64,8 @@ impl Cells {
         ensures answers { result ≡ within line (size self.old) (Ok tt) (Err Refused.NoLine) }
         ensures leaves { self.new ≡ within line (size self.old) (with_settled self.old line high) self.old }
     {
-        if line >= self.count() {
-            return Err(Refused::NoLine);
-        }
-        self.cells[line] = Cell {
+        let i = known_line(line, self.count())?;
+        self.cells[i] = Cell {
             last: high,
             loose: false,
         };

@@ -2,10 +2,13 @@
 #![tactic(auto)]
 
 mod board;
+mod cell_board;
 mod cells;
 mod hold;
+mod reader;
 mod tape;
 
-pub use board::{Board, Refused};
+pub use board::{Board, Refused, known_line};
 pub use hold::Hold;
+pub use numbers::Numbered;
 pub use tape::Tape;

@@ -1,5 +1,6 @@
 //! Boards as a caller meets them.
 use boards::{Board, Hold, Refused, Tape};
+use numbers::Numbered;
 
 #[test]
 fn tape_takes_the_lowest_bit_first(rt: HostRuntime) {

@@ -1,14 +1,15 @@
 //! The four-line discipline: a door, a claim and two turns for each station. First come, first served.
-ghost use Rattle.std.specs.Prelude.{◌≡◌, ℕ};
-ghost use Rattle.steps.specs.FourLine.{four_line, label, view, offset};
+ghost use Rattle.std.specs.Prelude.{◌≡◌, ℕ, refl};
+ghost use Rattle.steps.specs.FourLine.{four_line, offset};
 ghost use Rattle.runs.proofs.LinesApart.{four_lines};
-ghost use Rattle.runs.proofs.Tables.{four_back, four_one};
+ghost use Rattle.runs.proofs.Tables.{four_one};
 ghost use Rattle.runs.proofs.Four.Moves.{four_moves};
+ghost use Rattle.runs.proofs.Four.Order.{four_order};
 ghost use Rattle.runs.proofs.Four.Ranges.{four_range};
 
 use crate::discipline::{Discipline, FairDiscipline};
 use sets::Set;
-use steps::{Flag, FourPlace, Go, MERGING, Part, Record, Size};
+use steps::{Flag, FourPlace, MERGING, Part, Place, Record, Size};
 
 /// The four-line discipline: a door, a claim and two turns for each station.
 #[derive(Clone, Copy)]
@@ -17,15 +18,17 @@ pub struct FourLine;
 impl Discipline for FourLine {
     const PER_STATION: usize = 4;
 
+    ghost PER_STATION = { 4 };
+
     type Place = FourPlace;
 
     ghost table = { four_line };
 
-    ghost numbered = { label };
+    ghost per = { refl };
 
-    ghost viewed = { view };
+    ghost looks = { λ N p s k. refl };
 
-    ghost back = { four_back };
+    ghost goes = { λ N p s k high. refl };
 
     ghost apart = { four_lines };
 
@@ -35,24 +38,8 @@ impl Discipline for FourLine {
 
     ghost ranged = { four_range };
 
-    fn lines() -> usize {
-        Self::PER_STATION
-    }
-
-    fn place(number: u8) -> FourPlace {
-        FourPlace::at(number)
-    }
-
-    fn label(place: FourPlace) -> u8 {
-        place.label()
-    }
-
     fn number(size: Size, flag: Flag) -> Option<usize> {
-        if flag.station < size.stations {
-            Some(4 * flag.station + offset(flag.part))
-        } else {
-            None
-        }
+        (flag.station < size.stations).then(|| Self::PER_STATION * flag.station + offset(flag.part))
     }
 
     fn grant() -> u8 {
@@ -67,23 +54,17 @@ impl Discipline for FourLine {
             ..s
         }
     }
-
-    fn look(size: Size, p: usize, s: Record, pick: usize) -> Option<Flag> {
-        FourPlace::at(s.place).look(s, pick)
-    }
-
-    fn go(size: Size, p: usize, s: Record, pick: usize, high: bool) -> Go {
-        FourPlace::at(s.place).go(size, p, s, pick, high)
-    }
 }
 
 impl FairDiscipline for FourLine {
+    ghost fair = { four_order };
+
     fn ahead_places() -> (u8, u8) {
         (FourPlace::CloseDoor.label(), MERGING)
     }
 }
 
-// Where a part stands among the four lines of its station.
+// Where a part stands among the four lines of its station. (A turn line holds its side, so a part has no number of its own.)
 fn offset(part: Part) -> usize
     ensures { result ≡ offset part }
 {

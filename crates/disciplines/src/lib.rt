@@ -11,6 +11,6 @@ pub use plain::Plain;
 
 // What callers of a discipline name too.
 pub use steps::{
-    Contest, FAILED, Flag, FourPlace, Go, IDLE, MERGING, Outcome, Part, PlainPlace, RELEASE,
-    Record, Refusal, Size, answer_number,
+    Contest, FAILED, Flag, FourPlace, Go, IDLE, MERGING, Numbered, Outcome, Part, Place,
+    PlainPlace, RELEASE, Record, Refusal, Size, Step,
 };

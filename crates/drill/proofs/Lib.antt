@@ -1,2 +1,1 @@
 mod Picking
-mod Handing

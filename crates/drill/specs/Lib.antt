@@ -1,3 +1,2 @@
 pub mod Picks
 pub mod Passes
-pub mod Places

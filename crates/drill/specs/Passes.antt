@@ -1,18 +1,14 @@
 -- What becomes of a pass.
-use Rattle.std.specs.Prelude.{◌≡◌, ℕ, true, Ok, Err, Result, ◌==◌, nat_lt}
+use Rattle.std.specs.Prelude.{ℕ, Ok, Err, Result}
 use Rattle.boards.specs.Lines.{Meaning}
 use Rattle.steps.specs.declared.answers.Outcome.{Outcome}
 use Rattle.steps.specs.declared.answers.Refusal.{Refusal}
 use Rattle.steps.specs.Table.{Table}
 use Rattle.junction.specs.declared.pass.Pass.{Pass}
 use Rattle.junction.specs.declared.state.Junction.{Junction}
-use Rattle.junction.specs.Calls.{leave_answers, leave_leaves, fail_leaves}
+use Rattle.junction.specs.Calls.{leave_answers, fail_leaves}
 use Rattle.drill.specs.declared.passes.Ended.{Ended}
 use Rattle.drill.specs.declared.passes.Ended.TheVariants.{Left, Voided}
-
--- The pass bears the junction's name, and is of a station that the junction has.
-abbrev pub Issued : {D B : Type 0} → Junction D B → Pass → Type 0
-Issued j c = (nat_lt c.station j.size.stations ≡ true) × ((c.name == j.name) ≡ true)
 
 -- A pass ends with a leave, or with a void after the leave was refused.
 abbrev pub ended : Result Outcome (Pass × Refusal) → Ended
@@ -24,10 +20,6 @@ module _ {D B : Type 0} (t : Table) (m : Meaning B) where
   abbrev pub ended_after : Junction D B → Result Pass Refusal → Result Ended Refusal
   ended_after j (Ok c) = Ok (ended (leave_answers t m j c))
   ended_after j (Err e) = Err e
-
-  abbrev pub left_after : Junction D B → Result Pass Refusal → Junction D B
-  left_after j (Ok c) = leave_leaves t m j c
-  left_after j (Err e) = j
 
   -- A station fails, once its take has given it a pass.
   abbrev pub failed_after : Junction D B → ℕ → Result Pass Refusal → Junction D B

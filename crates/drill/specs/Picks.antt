@@ -1,26 +1,17 @@
 -- A go with the first pick that the station's set has.
-use Rattle.std.specs.Prelude.{ℕ, zero, suc, ◌+◌, Bool, true, false, cond, Ok, Err, Result}
+use Rattle.std.specs.Prelude.{ℕ, zero, suc, ◌+◌, Bool, true, false, cond, Err, Result}
 use Rattle.boards.specs.Lines.{Meaning}
 use Rattle.steps.specs.declared.answers.Outcome.{Outcome}
 use Rattle.steps.specs.declared.answers.Refusal.{Refusal}
-use Rattle.steps.specs.declared.answers.Refusal.TheVariants.{NoStation, NotIdle, WrongPick, MustLeave, NothingToSettle, HasFailed, NoPass, NotCurrent, StillCurrent, Limit}
+use Rattle.steps.specs.declared.answers.Refusal.TheVariants.{WrongPick}
 use Rattle.steps.specs.Table.{Table}
 use Rattle.junction.specs.declared.state.Junction.{Junction}
 use Rattle.junction.specs.Calls.{go_answers, go_leaves}
 
 -- Whether a go is refused for its pick.
 abbrev pub wrong_pick : Result Outcome Refusal → Bool
-wrong_pick (Ok o) = false
-wrong_pick (Err NoStation) = false
-wrong_pick (Err NotIdle) = false
 wrong_pick (Err WrongPick) = true
-wrong_pick (Err MustLeave) = false
-wrong_pick (Err NothingToSettle) = false
-wrong_pick (Err HasFailed) = false
-wrong_pick (Err NoPass) = false
-wrong_pick (Err NotCurrent) = false
-wrong_pick (Err StillCurrent) = false
-wrong_pick (Err Limit) = false
+wrong_pick other = false
 
 module _ {D B : Type 0} (t : Table) (m : Meaning B) where
   -- Goes of station p with picks from k on, n of them at most, up to the first that is not refused for its pick.

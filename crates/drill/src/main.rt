@@ -10,12 +10,12 @@ use boards::{Board, Tape};
 use compete::{STATIONS, compete, recover};
 use disciplines::{Discipline, FourLine};
 use junction::Junction;
-use passes::{take_and_fail, take_and_leave};
+use passes::{Ended, take_and_fail};
 use std::io;
-use tell::{tell, tell_ended, tell_holder, tell_place, tell_totals};
+use tell::{tell, tell_holder, tell_place, tell_totals};
 
-/// The lines of three stations.
-const LINES: usize = 12;
+/// The lines of the stations.
+const LINES: usize = STATIONS * FourLine::PER_STATION;
 
 /// The name of the junction.
 const NAME: u32 = 7;
@@ -24,7 +24,7 @@ const NAME: u32 = 7;
 const BUDGET: usize = 200;
 
 // All stations start. One of them starts twice, and one is not there.
-fn start_all<D: Discipline, B: Board>(rt: &HostRuntime, j: &mut Junction<D, B>) -> io::Result<()> {
+fn start_all<D: Discipline, B: Board>(rt: &impl Print, j: &mut Junction<D, B>) -> io::Result<()> {
     for p in 0..STATIONS {
         tell(rt, "start", p, j.start(p))?;
     }
@@ -34,14 +34,14 @@ fn start_all<D: Discipline, B: Board>(rt: &HostRuntime, j: &mut Junction<D, B>) 
 
 // The stations compete, and the one that comes to the merge leaves it in good order.
 fn hold_and_leave<D: Discipline, B: Board>(
-    rt: &HostRuntime,
+    rt: &impl Print,
     j: &mut Junction<D, B>,
-    among: [usize; STATIONS],
+    among: &[usize],
 ) -> io::Result<()> {
     if let Some(p) = compete(rt, j, among, BUDGET)? {
         tell_holder(rt, j)?;
         tell(rt, "go", p, j.go(p, 0))?;
-        tell_ended(rt, p, take_and_leave(j, p))?;
+        tell(rt, "pass", p, j.take_and_leave(p).map(|_| Ended::Left))?;
         tell(rt, "go", p, j.go(p, 0))?;
     }
     tell_holder(rt, j)
@@ -49,13 +49,13 @@ fn hold_and_leave<D: Discipline, B: Board>(
 
 // The stations compete, and the one that comes to the merge fails there. Then its lines are stirred.
 fn hold_and_fail<D: Discipline, B: Board>(
-    rt: &HostRuntime,
+    rt: &impl Print,
     j: &mut Junction<D, B>,
-    among: [usize; STATIONS],
+    among: &[usize],
 ) -> io::Result<Option<usize>> {
     let arrived = compete(rt, j, among, BUDGET)?;
     if let Some(p) = arrived {
-        tell_ended(rt, p, take_and_fail(j, p))?;
+        tell(rt, "pass", p, take_and_fail(j, p))?;
         tell(rt, "fail", p, j.fail(p))?;
         tell(rt, "stir", p, j.stir(p))?;
         tell_place(rt, j, p)?;
@@ -65,17 +65,17 @@ fn hold_and_fail<D: Discipline, B: Board>(
 }
 
 // The whole drill.
-fn drill<D: Discipline, B: Board>(rt: &HostRuntime, j: &mut Junction<D, B>) -> io::Result<()> {
+fn drill<D: Discipline, B: Board>(rt: &impl Print, j: &mut Junction<D, B>) -> io::Result<()> {
     start_all(rt, j)?;
     // Station 1 stays where it opens its door, and the door is loose: the others read it as the noise has it.
     tell(rt, "stir", 1, j.stir(1))?;
-    hold_and_leave(rt, j, [0, 2, 0])?;
+    hold_and_leave(rt, j, &[0, 2, 0])?;
     // Station 0 comes again.
     tell(rt, "start", 0, j.start(0))?;
-    let failed = hold_and_fail(rt, j, [0, 1, 2])?;
+    let failed = hold_and_fail(rt, j, &[0, 1, 2])?;
     // The failed station rests while the others are served.
-    hold_and_leave(rt, j, [0, 1, 0])?;
-    hold_and_leave(rt, j, [0, 1, 0])?;
+    hold_and_leave(rt, j, &[0, 1, 0])?;
+    hold_and_leave(rt, j, &[0, 1, 0])?;
     if let Some(p) = failed {
         if recover(j, p, BUDGET) {
             tell_place(rt, j, p)?;

@@ -1,50 +1,27 @@
 //! The drill's lines.
-use crate::passes::Ended;
 use boards::Board;
 use disciplines::Discipline;
 use junction::Junction;
-use std::io;
-use steps::{Outcome, Refusal};
+use numbers::Numbered;
+use std::{fmt, io};
+use steps::Refusal;
 
-// How a call of a station was answered; a refusal by its number.
-pub(crate) fn tell(
-    rt: &HostRuntime,
+// What came of a call of a station, or of its pass; a refusal by its number.
+pub(crate) fn tell<T: fmt::Display + Copy>(
+    rt: &impl Print,
     call: &str,
     p: usize,
-    answer: Result<Outcome, Refusal>,
+    answer: Result<T, Refusal>,
 ) -> io::Result<()> {
     match answer {
-        Ok(Outcome::Accepted) => println!(rt; "{call} of station {p}: accepted"),
-        Ok(Outcome::Waits) => println!(rt; "{call} of station {p}: waits"),
-        Ok(Outcome::Idle) => println!(rt; "{call} of station {p}: idle"),
-        Err(refusal) => {
-            let number = refusal.number();
-            println!(rt; "{call} of station {p}: refused, {number}")
-        }
+        Ok(done) => println!(rt; "{call} of station {p}: {done}"),
+        Err(refusal) => println!(rt; "{call} of station {p}: refused, {}", refusal.number()),
     }
 }
 
-// What became of the pass of a station.
-pub(crate) fn tell_ended(
-    rt: &HostRuntime,
-    p: usize,
-    ended: Result<Ended, Refusal>,
-) -> io::Result<()> {
-    match ended {
-        Ok(Ended::Left) => println!(rt; "pass of station {p}: taken, and left with"),
-        Ok(Ended::Voided(refusal)) => {
-            let number = refusal.number();
-            println!(rt; "pass of station {p}: taken, leave refused, {number}, and voided")
-        }
-        Err(refusal) => {
-            let number = refusal.number();
-            println!(rt; "pass of station {p}: refused, {number}")
-        }
-    }
-}
-
+// An Option is told by a line for each arm: a Display would need a type of our own around it.
 pub(crate) fn tell_holder<D: Discipline, B: Board>(
-    rt: &HostRuntime,
+    rt: &impl Print,
     j: &Junction<D, B>,
 ) -> io::Result<()> {
     match j.holder() {
@@ -54,7 +31,7 @@ pub(crate) fn tell_holder<D: Discipline, B: Board>(
 }
 
 pub(crate) fn tell_place<D: Discipline, B: Board>(
-    rt: &HostRuntime,
+    rt: &impl Print,
     j: &Junction<D, B>,
     p: usize,
 ) -> io::Result<()> {
@@ -65,12 +42,12 @@ pub(crate) fn tell_place<D: Discipline, B: Board>(
 }
 
 pub(crate) fn tell_totals<D: Discipline, B: Board>(
-    rt: &HostRuntime,
+    rt: &impl Print,
     j: &Junction<D, B>,
 ) -> io::Result<()> {
     let totals = j.totals();
-    let grants = totals.grants;
-    let ends = totals.ends;
-    let rounds = totals.rounds;
-    println!(rt; "totals: {grants} grants, {ends} ends, {rounds} rounds")
+    println!(rt;
+        "totals: {} grants, {} ends, {} rounds",
+        totals.grants, totals.ends, totals.rounds
+    )
 }

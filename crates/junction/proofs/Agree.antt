@@ -1,12 +1,11 @@
 -- Each call keeps the junction in agreement with its history: stations, lines and the count of calls.
-use Rattle.std.proofs.Common.{◌≡◌, ℕ, suc, ◌*◌, ◌<◌, ◌≤◌, Bool, true, false, cond, ◌&&◌, eqb, ltb, ◌≢◌, length, get_or, set, Some, None, Option, sym, refl, ap, ◌∙◌, subst, inl, inr, add-one, arith, length-set, get_or-set_other, get_or-set_same, ltb-true, lt-ltb, eqb-true}
-use borrow.Author.Tests.{eqb-false}
+use Rattle.std.proofs.Common.{◌≡◌, ℕ, suc, ◌*◌, ◌<◌, ◌≤◌, Bool, true, false, cond, ◌&&◌, eqb, ltb, ◌≢◌, length, get_or, set, Some, None, Option, sym, refl, ap, ◌∙◌, subst, inl, inr, arith, length-set, get_or-set_other, get_or-set_same, ltb-true, lt-ltb}
 use Rattle.std.proofs.lemmas.Bool.Decides.{nat_tests}
 use Rattle.std.proofs.lemmas.Bool.{cond_both, cases_eq}
+use Rattle.std.proofs.Math.Bool.{and-false}
 use Rattle.boards.specs.Lines.{Line, settled, loose, Meaning, Lawful}
 use Rattle.steps.specs.declared.record.Record.{Record}
 use Rattle.steps.specs.declared.lines.Part.{Part}
-use Rattle.steps.specs.declared.lines.Part.TheVariants.{Door, Claim, Turn}
 use Rattle.steps.specs.declared.lines.Flag.{Flag}
 use Rattle.steps.specs.declared.go.Go.{Go}
 use Rattle.steps.specs.declared.go.Go.TheVariants.{Idle, Waits, WrongPick, MustLeave, Moves, Settles}
@@ -20,12 +19,11 @@ use Rattle.runs.specs.Runs.{Event, start, stir, fail, take, go, leave, void, Own
 use Rattle.junction.specs.declared.stations.Station.{Station}
 use Rattle.junction.specs.declared.counts.Note.{Note}
 use Rattle.junction.specs.declared.state.Junction.{Junction}
-use Rattle.junction.specs.Stations.{at_record, arrived, pass_taken}
-use Rattle.junction.specs.Counts.{most, more_if}
+use Rattle.junction.specs.Stations.{blank, at_record, arrived, pass_taken}
+use Rattle.junction.specs.Counts.{more_if}
 use Rattle.junction.specs.Wires.{hears, heard, settled_on}
 use Rattle.junction.specs.Calls.{station, place, with_board, counting, stepped, note, look_of, go_of, acted, next_go}
 use Rattle.junction.specs.Promise.{Call, ticket, call_leaves, event, kept_of}
-use Rattle.junction.proofs.Both.{and_false, and_true}
 use Rattle.junction.proofs.ByCall.{bit, Alike, by_call}
 use Rattle.junction.proofs.Touch.{Touched, retouch, in_room, touch_settle, touch_stir, touch_read}
 
@@ -38,52 +36,25 @@ used_next s e r = one_more (limited e && is_accepted r) s.used
 
 -- by cases: the station that calls, or another
 each : (P : ℕ → Own → Type 0) (s : State) (e : Event) (r : Reply) → P (of e) (runs.after r (s.own (of e))) → ((q : ℕ) → q ≢ of e → P q (s.own q)) → (q : ℕ) → P q (own_next s e r q)
-each P s e r h g q =
-    cond_both (eqb q (of e)) (runs.after r (s.own (of e))) (s.own q) (P q)
-    (λ y. subst (λ z. P z (runs.after r (s.own (of e)))) (sym (eqb-true q (of e) y)) h)
-    (λ y. g q (eqb-false q (of e) y))
+each P s e r h g q = let other = g q in grind (arith, nat_tests)
 
-abbrev pub blank : Station
-blank = record { rec = record { place = 0; side = false; kept = 0; left = record { bits = 0 }; copy = record { bits = 0 } }; arrivals = 0; taken = false }
-
-grows : (b : Bool) (n k : ℕ) → k ≤ n → k ≤ one_more b n
-grows true n k h = omega arith
-grows false n k h = h
-
--- the code's counting on is one more, under the limit
-one_up : (u v : ℕ) → u ≡ v → v < limit → more_if true u ≡ suc v
-one_up u v e lt = let x : u < most = omega arith in rw (lt-ltb u most x) (add-one u ∙ ap suc e)
-
+-- the code's counting on is one more, far from what 64 bits hold
 bump_if : (b : Bool) (n : ℕ) → n < limit → more_if b n ≡ cond b (suc n) n
-bump_if true n lt = one_up n n refl lt
-bump_if false n lt = refl
-
-cond_le : (b : Bool) (n u : ℕ) → n ≤ u → cond b (suc n) n ≤ suc u
-cond_le true n u h = omega arith
-cond_le false n u h = omega arith
+bump_if b n lt = grind (arith, nat_tests)
 
 -- lines are not changed by a change of the record or of the pass
 stands_line : (x : Part) (a : Record) (o : Own) → line x o ≡ line x (stands a o)
-stands_line Door a o = refl
-stands_line Claim a o = refl
-stands_line (Turn e) a o = refl
+stands_line x a o = grind arith
 
 goes_line : (x : Part) (a : Record) (o : Own) → line x o ≡ line x (goes_to a o)
-goes_line Door a o = refl
-goes_line Claim a o = refl
-goes_line (Turn e) a o = refl
+goes_line x a o = grind arith
 
 takes_line : (x : Part) (o : Own) → line x o ≡ line x (runs.takes o)
-takes_line Door o = refl
-takes_line Claim o = refl
-takes_line (Turn e) o = refl
+takes_line x o = grind arith
 
 -- a line of a station whose lines are as f says
 lines_at : (x : Part) (f : Part → Line) (o : Own) → f x ≡ line x (lines_to f o)
-lines_at Door f o = refl
-lines_at Claim f o = refl
-lines_at (Turn true) f o = refl
-lines_at (Turn false) f o = refl
+lines_at x f o = grind arith
 
 module _ {D B : Type 0} (t : Table) (m : Meaning B) (law : Lawful m) (apart : LinesApart t) (N : ℕ) where
   -- the junction agrees with stations w and a count u of calls
@@ -103,7 +74,7 @@ module _ {D B : Type 0} (t : Table) (m : Meaning B) (law : Lawful m) (apart : Li
   stays : (j : Junction D B) (s : State) (e : Event) (n : Refusal) → Sofar j s.own s.used → Sofar j (own_next s e (refused n)) (used_next s e (refused n))
   stays j s e n h =
       let same : (λ q. s.own q) ≡ own_next s e (refused n) = λ i q. each (λ z o. s.own z ≡ o) s e (refused n) refl (λ z _. refl) q i in
-      let u : s.used ≡ used_next s e (refused n) = ap (λ b. one_more b s.used) (sym (and_false (limited e))) in
+      let u : s.used ≡ used_next s e (refused n) = ap (λ b. one_more b s.used) (sym (and-false (limited e))) in
       subst (λ x. Sofar j x (used_next s e (refused n))) same (subst (λ x. Sofar j s.own x) u h)
 
   -- an accepted call, after which the station that calls is o
@@ -122,7 +93,6 @@ module _ {D B : Type 0} (t : Table) (m : Meaning B) (law : Lawful m) (apart : Li
       let p : ℕ = of e in
       let hr = h.room in
       let kc = k.board.count in
-      let u : one_more (limited e) s.used ≡ used_next s e r = ap (λ b. one_more b s.used) (sym (ap (λ b. limited e && b) acc ∙ and_true (limited e))) in
       record {
         size = k.size;
         few = h.few;
@@ -133,9 +103,9 @@ module _ {D B : Type 0} (t : Table) (m : Meaning B) (law : Lawful m) (apart : Li
             (λ at. k.board.own_line x l at)
             (λ q n at. k.board.other_line q x l n at ∙ h.lines q x l at) q;
         outside = λ q x. each (λ q o. N ≤ q → line x o ≡ settled false) s e r (λ far. absurd (omega arith)) (λ q n far. h.outside q x far) q;
-        used = k.used ∙ u;
-        within = subst (λ z. z ≤ limit) u k.within;
-        arrivals = each (λ q o. o.arrivals ≤ used_next s e r) s e r (subst (λ z. (runs.after r (s.own p)).arrivals ≤ z) u k.arrivals) (λ q n. subst (λ z. (s.own q).arrivals ≤ z) u (grows (limited e) s.used (s.own q).arrivals (h.arrivals q)));
+        used = let now = k.used in grind arith;
+        within = let now = k.within in grind arith;
+        arrivals = each (λ q o. o.arrivals ≤ used_next s e r) s e r (let now = k.arrivals in grind arith) (λ q n. let old = h.arrivals q in grind arith);
       }
 
   pub untouched : (j : Junction D B) (w : ℕ → Own) (u p : ℕ) (f : Part → Line) → Sofar j w u → ((x : Part) → line x (w p) ≡ f x) → Touched t m law apart N j.board j.board p f
@@ -175,9 +145,9 @@ module _ {D B : Type 0} (t : Table) (m : Meaning B) (law : Lawful m) (apart : Li
         own_station = h.stations (of e) lt;
         other_station = λ q d. refl;
         board = untouched t m law apart n j s.own s.used (of e) _ h (λ x. refl);
-        used = h.used ∙ sym (ap (λ b. one_more b s.used) free);
-        within = subst (λ b. one_more b s.used ≤ limit) (sym free) h.within;
-        arrivals = subst (λ b. (s.own (of e)).arrivals ≤ one_more b s.used) (sym free) (h.arrivals (of e));
+        used = let old = h.used in grind arith;
+        within = let old = h.within in grind arith;
+        arrivals = let old = h.arrivals (of e) in grind arith;
       }))
 
   -- counted, with another board
@@ -192,9 +162,9 @@ module _ {D B : Type 0} (t : Table) (m : Meaning B) (law : Lawful m) (apart : Li
         own_station = h.stations (of e) lt ∙ sym same;
         other_station = λ q d. refl;
         board = board;
-        used = ap (λ z. more_if z j.counts.used) kl ∙ one_up j.counts.used s.used h.used ul ∙ sym (ap (λ z. one_more z s.used) lim);
-        within = subst (λ z. one_more z s.used ≤ limit) (sym lim) ul;
-        arrivals = subst (λ z. (runs.after r (s.own (of e))).arrivals ≤ one_more z s.used) (sym lim) (omega arith);
+        used = let old = h.used in grind (arith, nat_tests);
+        within = grind arith;
+        arrivals = grind arith;
       })
 
   -- what a go hears is what follows from the lines
@@ -245,8 +215,8 @@ module _ {D B : Type 0} (t : Table) (m : Meaning B) (law : Lawful m) (apart : Li
       ∙ ap (λ z. record { rec = x; arrivals = z; taken = cond (eqb x.place merge_place) false (s.own p).taken }) (bump_if (eqb x.place merge_place) (s.own p).arrivals al)
       ∙ sym same)
       board
-      (ap (λ z. more_if z j.counts.used) lim ∙ one_up j.counts.used s.used h.used ul) ul
-      (subst (λ z. z ≤ suc s.used) (sym (ap (λ (z : Station). z.arrivals) same)) (cond_le (eqb x.place merge_place) (s.own p).arrivals s.used ar)))
+      (let old = h.used in grind (arith, nat_tests)) ul
+      (let now = ap (λ (z : Station). z.arrivals) same in grind arith))
 
   act_step : (p k : ℕ) (a : Bool) (b : B) (g : Go) → p < n → s.used < limit → T b p (λ x. line x (s.own p)) → R (go p k a) (acted t m (with_board j b) p g) (of_go g (s.own p))
   act_step p k a b Idle lt ul board = counts (go p k a) idle b (note true false false true) lt refl refl refl ul refl board
@@ -276,9 +246,7 @@ module _ {D B : Type 0} (t : Table) (m : Meaning B) (law : Lawful m) (apart : Li
       let ar = h.arrivals (of e) in
       advances t m law apart n j _ s e (done o) lt refl h
       (puts t m law apart n j _ s e o x lt h refl refl is (untouched t m law apart n j s.own s.used (of e) _ h lines)
-      (ap (λ z. more_if z j.counts.used) kl ∙ one_up j.counts.used s.used h.used ul ∙ sym (ap (λ z. one_more z s.used) lim))
-      (subst (λ z. one_more z s.used ≤ limit) (sym lim) ul)
-      (subst (λ z. o.arrivals ≤ one_more z s.used) (sym lim) (omega arith)))
+      (let old = h.used in grind (arith, nat_tests)) (grind arith) (grind arith))
 
   -- the same by a call that the limit does not count
   exchanged : (e : Event) (j' : Junction D B) (x : Station) (o : Own) → of e < n → limited e ≡ false → j'.size.stations ≡ n → j'.stations.at ≡ set j.stations.at (of e) x → j'.board ≡ j.board → j'.counts.used ≡ j.counts.used → x ≡ kept_of o → o.arrivals ≡ (s.own (of e)).arrivals → ((y : Part) → line y (s.own (of e)) ≡ line y o) → R e j' (done o)
@@ -287,9 +255,7 @@ module _ {D B : Type 0} (t : Table) (m : Meaning B) (law : Lawful m) (apart : Li
       advances t m law apart n j j' s e (done o) lt refl h
       (puts t m law apart n j j' s e o x lt h size at is
       (subst (λ b. Touched t m law apart n j.board b (of e) (λ y. line y o)) (sym board) (untouched t m law apart n j s.own s.used (of e) _ h lines))
-      (used ∙ h.used ∙ sym (ap (λ b. one_more b s.used) free))
-      (subst (λ b. one_more b s.used ≤ limit) (sym free) h.within)
-      (subst (λ b. o.arrivals ≤ one_more b s.used) (sym free) (omega arith)))
+      (let old = h.used in grind arith) (let old = h.within in grind arith) (grind arith))
 
   pub call_step : (c : Call) → R (event t m j c) (call_leaves t m j c) (reply t n j.name s (event t m j c))
   call_step = by_call t m j s alike (λ e j' a r. R e j' r) (record {

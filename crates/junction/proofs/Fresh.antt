@@ -1,69 +1,50 @@
 -- A junction as made agrees with the empty history.
-use Rattle.std.proofs.Common.{◌≡◌, ℕ, zero, suc, ◌*◌, ◌<◌, ◌≤◌, min, Bool, true, false, cond, ◌&&◌, ltb, leb, ◌≢◌, length, get_or, replicate, Ok, Err, Result, sym, refl, ap, ◌∙◌, inl, inr, arith, lt-ltb, leb-true}
+use Rattle.std.proofs.Common.{◌≡◌, ℕ, zero, suc, ◌*◌, ◌<◌, ◌≤◌, min, false, length, get_or, replicate, Ok, Err, Result, sym, refl, ap, ◌∙◌, arith}
 use native.Mathlib.Bridge.{le_prop}
 use mathlib.Core.HLevel.{is_prop→PathP}
 use lib.ListN.{get_or-replicate}
 use Rattle.std.proofs.lemmas.Bool.Decides.{nat_tests}
-use Rattle.std.proofs.lemmas.Bool.{cond_both, cases_eq}
 use Rattle.boards.specs.Lines.{settled, Meaning, Lawful}
 use Rattle.steps.specs.declared.size.Size.{Size}
 use Rattle.steps.specs.declared.lines.Part.{Part}
-use Rattle.steps.specs.declared.lines.Part.TheVariants.{Door, Claim, Turn}
 use Rattle.steps.specs.Rows.{flag}
 use Rattle.sets.proofs.SetLaws.{has_none}
 use Rattle.steps.specs.Table.{Table}
 use Rattle.runs.specs.Laws.{LinesApart}
 use Rattle.runs.specs.Runs.{State, made, new_own, line, most_stations}
 use Rattle.junction.specs.declared.making.Unfit.{Unfit}
-use Rattle.junction.specs.declared.making.Unfit.TheVariants.{Stations, Lines}
 use Rattle.junction.specs.declared.counts.Counts.{Counts}
 use Rattle.junction.specs.declared.state.Junction.{Junction}
-use Rattle.junction.specs.Stations.{new_station}
+use Rattle.junction.specs.Stations.{blank, new_station}
 use Rattle.junction.specs.Counts.{new_counts}
 use Rattle.junction.specs.Wires.{lowered}
 use Rattle.junction.specs.Making.{room_for, stations_made, board_made, sized, new_junction}
-use Rattle.junction.proofs.Agree.{Sofar, blank}
+use Rattle.junction.proofs.Agree.{Sofar}
 use Rattle.junction.proofs.Tally.{Told}
 
 module _ {B : Type 0} (m : Meaning B) (law : Lawful m) where
   lowered_count : (b : B) (k : ℕ) → m.count (lowered m b k) ≡ m.count b
   lowered_count b zero = refl
-  lowered_count b (suc k) = cond_both (ltb k (m.count (lowered m b k))) _ _ (λ x. m.count x ≡ m.count (lowered m b k)) (λ _. law.settle_count (lowered m b k) k false) (λ _. refl) ∙ lowered_count b k
+  lowered_count b (suc k) = let one = law.settle_count (lowered m b k) k false in let rest = lowered_count b k in grind arith
 
   lowered_low : (b : B) (k : ℕ) → k ≤ m.count b → (l : ℕ) → l < k → m.line (lowered m b k) l ≡ settled false
   lowered_low b zero fit l lt = absurd (omega arith)
   lowered_low b (suc k) fit l lt =
-      let c = lowered m b k in
-      let in_c : k < m.count c = omega (arith, lowered_count b k) in
-      let at : m.line (lowered m b (suc k)) l ≡ m.line (m.set_to c k false) l = ap (λ x. m.line (cond x (m.set_to c k false) c) l) (lt-ltb k (m.count c) in_c) in
-      at ∙ elim (cases_eq k l) [
-        | inl same ↦ ap (m.line (m.set_to c k false)) (sym same) ∙ law.settle_same c k false in_c
-        | inr other ↦ law.settle_other c k l false in_c other ∙ lowered_low b k (omega arith) l (let ne : k ≢ l = other in omega arith)
-      ]
+      let count = lowered_count b k in
+      let rest = lowered_low b k (omega arith) l in
+      let same = law.settle_same (lowered m b k) k false in
+      let other = law.settle_other (lowered m b k) k l false in
+      grind (arith, nat_tests)
 
 min_is : (n : ℕ) → n ≤ most_stations → min n most_stations ≡ n
 min_is n h = omega arith
 
 -- where there is room for lines, they are those of the stations, and the board has them
 room_is : {B : Type 0} (t : Table) (m : Meaning B) (n : ℕ) (b : B) (l : ℕ) → room_for t m n b ≡ Ok l → (l ≡ n * t.per) × (l ≤ m.count b) × (n ≤ most_stations)
-room_is t m n b l e = at (leb 1 n && leb n most_stations) (leb (n * t.per) (m.count b)) refl refl e
-  where
-    absent : (x y : Unfit) → ◌≡◌ {A = Result ℕ Unfit} (Err x) (Ok l) → ⊥
-    absent x y e = let z : ◌≡◌ {A = ℕ} 0 1 = cc in omega arith
-
-    same : (i : ℕ) → ◌≡◌ {A = Result ℕ Unfit} (Ok i) (Ok l) → l ≡ i
-    same i e = cc
-
-    at : (a c : Bool) → leb 1 n && leb n most_stations ≡ a → leb (n * t.per) (m.count b) ≡ c → cond a (cond c (Ok (n * t.per)) (Err Lines)) (Err Stations) ≡ Ok l → (l ≡ n * t.per) × (l ≤ m.count b) × (n ≤ most_stations)
-    at true true w q e = let s = same (n * t.per) e in let le = leb-true (n * t.per) (m.count b) q in (s, omega arith, grind (arith, nat_tests))
-    at true false w q e = absurd (absent Lines Lines e)
-    at false c w q e = absurd (absent Stations Stations e)
+room_is t m n b l e = (grind (arith, nat_tests), grind (arith, nat_tests), grind (arith, nat_tests))
 
 made_line : (x : Part) → settled false ≡ line x new_own
-made_line Door = refl
-made_line Claim = refl
-made_line (Turn true) = refl
-made_line (Turn false) = refl
+made_line x = grind arith
 
 module _ {D B : Type 0} (t : Table) (m : Meaning B) (law : Lawful m) (apart : LinesApart t) where
   abbrev pub Agreed : ℕ → Junction D B → State → Type 0

@@ -9,4 +9,3 @@ pub mod Others
 pub mod Refused
 pub mod Fresh
 pub mod Whole
-pub mod Taken

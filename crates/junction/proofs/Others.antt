@@ -1,5 +1,5 @@
 -- A call on one station leaves every other station, and every line of it, as they were.
-use Rattle.std.proofs.Common.{◌≡◌, ℕ, ◌≢◌, Some, refl, subst, get_or-set_other}
+use Rattle.std.proofs.Common.{◌≡◌, ℕ, ◌≢◌, Some, refl, subst, arith, get_or-set_other}
 use Rattle.boards.specs.Lines.{Meaning, Lawful}
 use Rattle.steps.specs.declared.lines.Part.{Part}
 use Rattle.steps.specs.declared.go.Go.{Go}
@@ -10,12 +10,13 @@ use Rattle.runs.specs.Laws.{LinesApart}
 use Rattle.runs.specs.Runs.{State, of, line}
 use Rattle.junction.specs.declared.stations.Station.{Station}
 use Rattle.junction.specs.declared.state.Junction.{Junction}
+use Rattle.junction.specs.Stations.{blank}
 use Rattle.junction.specs.Wires.{heard}
 use Rattle.junction.specs.Calls.{station, place, with_board, putting, acted, look_of, next_go}
-use Rattle.junction.specs.Promise.{Call, to_start, to_stir, to_fail, to_take, to_go, to_leave, to_void, named, call_leaves, event}
+use Rattle.junction.specs.Promise.{Call, named, call_leaves, event}
 use Rattle.junction.proofs.ByCall.{by_call}
 use Rattle.junction.proofs.Touch.{Touched, touch_settle, touch_stir, touch_read}
-use Rattle.junction.proofs.Agree.{Sofar, alike, blank, untouched}
+use Rattle.junction.proofs.Agree.{Sofar, alike, untouched}
 
 module _ {D B : Type 0} (t : Table) (m : Meaning B) (law : Lawful m) (apart : LinesApart t) (j : Junction D B) (s : State) (h : Sofar t m law apart j.size.stations j s.own s.used) where
   abbrev n : ℕ
@@ -59,13 +60,7 @@ module _ {D B : Type 0} (t : Table) (m : Meaning B) (law : Lawful m) (apart : Li
   })
 
   of_named : (c : Call) → of (event t m j c) ≡ named c
-  of_named (to_start p) = refl
-  of_named (to_stir p) = refl
-  of_named (to_fail p) = refl
-  of_named (to_take p) = refl
-  of_named (to_go p k) = refl
-  of_named (to_leave c) = refl
-  of_named (to_void c) = refl
+  of_named c = grind arith
 
   pub others : (c : Call) → Besides (named c) (call_leaves t m j c)
   others c = subst (λ p. Besides p (call_leaves t m j c)) (of_named c) (besides c)

@@ -1,5 +1,8 @@
 -- Each call keeps the junction's totals, and the stations seen, those that follow from its history.
-use Rattle.std.proofs.Common.{◌≡◌, ℕ, zero, suc, ◌<◌, ◌≤◌, Bool, true, false, cond, ◌&&◌, ◌||◌, eqb, sym, refl, ap, ◌∙◌, ap₂, add-one, arith, lt-ltb}
+use Rattle.std.proofs.Common.{◌≡◌, ℕ, zero, suc, ◌<◌, ◌≤◌, Bool, true, false, cond, ◌&&◌, ◌||◌, eqb, sym, refl, ap, ◌∙◌, ap₂, arith}
+use Rattle.std.proofs.lemmas.Bool.{and_left}
+use Rattle.std.proofs.lemmas.Bool.Decides.{nat_tests}
+use Rattle.std.proofs.Math.Bool.{and-false, or-false}
 use Rattle.boards.specs.Lines.{settled, Meaning}
 use Rattle.steps.specs.declared.go.Go.{Go}
 use Rattle.steps.specs.declared.go.Go.TheVariants.{Idle, Waits, WrongPick, MustLeave, Moves, Settles}
@@ -18,7 +21,6 @@ use Rattle.junction.specs.declared.state.Junction.{Junction}
 use Rattle.junction.specs.Counts.{most, more_if, noted, seen_with, round_over}
 use Rattle.junction.specs.Calls.{place, with_board, note, acted}
 use Rattle.junction.specs.Promise.{Call, ticket, call_leaves, event}
-use Rattle.junction.proofs.Both.{first_false, or_false}
 use Rattle.junction.proofs.ByCall.{Alike, by_call, bit}
 
 -- what a call counts as, by its reply
@@ -54,50 +56,41 @@ pub record Small (s : State) : Type 0 where
   pub ends : s.ends < most
   pub rounds : s.rounds < most
 
-none_of : (a x : Bool) → a && false && x ≡ false
-none_of true x = refl
-none_of false x = refl
-
-or_none : (y a x : Bool) → y || (a && false && x) ≡ y
-or_none true a x = refl
-or_none false true x = refl
-or_none false false x = refl
-
 counted_if : (b d : Bool) (m n : ℕ) → b ≡ d → m ≡ n → n < most → more_if b m ≡ one_more d n
-counted_if b d m n e f lt = ap₂ more_if e f ∙ at d
-  where
-    at : (x : Bool) → more_if x n ≡ one_more x n
-    at true = rw (lt-ltb n most lt) (add-one n)
-    at false = refl
+counted_if b d m n e f lt = grind (arith, nat_tests)
 
 everywhere_same : (n : ℕ) (f g : ℕ → Bool) → ((q : ℕ) → q < n → f q ≡ g q) → everywhere n f ≡ everywhere n g
 everywhere_same zero f g h = refl
 everywhere_same (suc n) f g h = ap₂ ◌&&◌ (h n (omega arith)) (everywhere_same n f g (λ q lt. h q (omega arith)))
 
 module _ (t : Table) (N : ℕ) (s : State) (c : Counts) (e : Event) (told : Told N c s) where
+  -- a call that counts as nothing
+  uncounted : (r : Reply) → is_go e && is_done r ≡ false → frees e && is_done r ≡ false → shows e && is_accepted r ≡ false → Tally t N s e r c
+  uncounted r g d w =
+      let off : (x : Bool) → shows e && is_accepted r && x ≡ false = λ x. and_left (shows e && is_accepted r) x w in
+      record {
+        grants = told.grants ∙ ap (λ b. one_more b s.grants) (sym (and_left (is_go e && is_done r) _ g));
+        ends = told.ends ∙ ap (λ b. one_more b s.ends) (sym (and_left (frees e && is_done r) _ d));
+        rounds = told.rounds ∙ ap (λ b. one_more b s.rounds) (sym (off _));
+        seen = λ q lt. told.seen q lt ∙ sym (ap (λ b. cond b false (seen_by t N s e r q)) (off _) ∙ ap (λ b. s.seen q || b) (off _) ∙ or-false (s.seen q));
+      }
+
   -- a refused call
   tally_none : (x : Refusal) → Tally t N s e (refused x) c
-  tally_none x = record {
-    grants = told.grants ∙ ap (λ b. one_more b s.grants) (sym (none_of (is_go e) _));
-    ends = told.ends ∙ ap (λ b. one_more b s.ends) (sym (none_of (frees e) _));
-    rounds = told.rounds ∙ ap (λ b. one_more b s.rounds) (sym (none_of (shows e) _));
-    seen = λ q lt. told.seen q lt ∙ sym (ap (λ b. cond b false (seen_by t N s e (refused x) q)) (none_of (shows e) (everywhere N (seen_by t N s e (refused x)))) ∙ or_none (s.seen q) (shows e) (eqb q (of e)));
-  }
+  tally_none x = uncounted (refused x) (and-false (is_go e)) (and-false (frees e)) (and-false (shows e))
 
   with_seen : (k : Note) (r : Reply) → of e < 32 → k.shown ≡ shows e && is_accepted r → (q : ℕ) → q < N → has (seen_with k (of e) c.seen) q ≡ seen_by t N s e r q
-  with_seen k r small is q lt = ap (λ b. has (cond b (plus (of e) c.seen) c.seen) q) is ∙ at (shows e) (is_accepted r) ∙ ap (λ b. b || (shows e && is_accepted r && eqb q (of e))) (told.seen q lt)
+  with_seen k r small is q lt = ap (λ b. has (cond b (plus (of e) c.seen) c.seen) q) is ∙ at (shows e && is_accepted r) ∙ ap (λ b. b || (shows e && is_accepted r && eqb q (of e))) (told.seen q lt)
     where
-      at : (a b : Bool) → has (cond (a && b) (plus (of e) c.seen) c.seen) q ≡ has c.seen q || (a && b && eqb q (of e))
-      at true true = λ i. has_plus (of e) c.seen small i q
-      at true false = sym (or_none (has c.seen q) true (eqb q (of e)))
-      at false true = sym (or_none (has c.seen q) false (eqb q (of e)))
-      at false false = sym (or_none (has c.seen q) false (eqb q (of e)))
+      at : (b : Bool) → has (cond b (plus (of e) c.seen) c.seen) q ≡ has c.seen q || (b && eqb q (of e))
+      at true = λ i. has_plus (of e) c.seen small i q
+      at false = sym (or-false (has c.seen q))
 
   -- a call that is counted by a note
   tally_note : (k : Note) (r : Reply) → of e < 32 → Small s → k.granted ≡ grants_by t N s e r → k.ended ≡ ends_by t N s e r → k.shown ≡ shows e && is_accepted r → Tally t N s e r (noted k N (of e) c)
   tally_note k r small fit g d w =
       let round : round_over k N (of e) c.seen ≡ round_by t N s e r
-      = ap₂ ◌&&◌ w (everywhere_same N (has (seen_with k (of e) c.seen)) (seen_by t N s e r) (with_seen k r small w)) ∙ grouped (shows e) (is_accepted r) (everywhere N (seen_by t N s e r)) in
+      = ap₂ ◌&&◌ w (everywhere_same N (has (seen_with k (of e) c.seen)) (seen_by t N s e r) (with_seen k r small w)) in
       record {
         grants = counted_if k.granted _ c.totals.grants s.grants g told.grants fit.grants;
         ends = counted_if k.ended _ c.totals.ends s.ends d told.ends fit.ends;
@@ -105,26 +98,13 @@ module _ (t : Table) (N : ℕ) (s : State) (c : Counts) (e : Event) (told : Told
         seen = λ q lt. ap (λ b. has (cond b none (seen_with k (of e) c.seen)) q) round ∙ at (round_by t N s e r) q ∙ ap (λ b. cond (round_by t N s e r) false b) (with_seen k r small w q lt);
       }
     where
-      grouped : (a b x : Bool) → (a && b) && x ≡ a && b && x
-      grouped true true x = refl
-      grouped true false x = refl
-      grouped false b x = refl
-
       at : (b : Bool) (q : ℕ) → has (cond b none (seen_with k (of e) c.seen)) q ≡ cond b false (has (seen_with k (of e) c.seen) q)
       at true q = λ i. has_none i q
       at false q = refl
 
   -- takes and voids are not counted
   quiet : (r : Reply) → is_go e ≡ false → frees e ≡ false → shows e ≡ false → Tally t N s e r c
-  quiet r a b d = record {
-    grants = told.grants ∙ ap (λ z. one_more z s.grants) (sym (first_false (is_go e) _ _ a));
-    ends = told.ends ∙ ap (λ z. one_more z s.ends) (sym (first_false (frees e) _ _ b));
-    rounds = told.rounds ∙ ap (λ z. one_more z s.rounds) (sym (first_false (shows e) _ _ d));
-    seen = λ q lt.
-        told.seen q lt
-        ∙ sym (ap (λ z. cond z false (seen_by t N s e r q)) (first_false (shows e) (is_accepted r) (everywhere N (seen_by t N s e r)) d)
-        ∙ ap (λ z. s.seen q || z) (first_false (shows e) (is_accepted r) (eqb q (of e)) d) ∙ or_false (s.seen q));
-  }
+  quiet r a b d = uncounted r (and_left (is_go e) _ a) (and_left (frees e) _ b) (and_left (shows e) (is_accepted r) d)
 
 -- every call
 module _ {D B : Type 0} (t : Table) (m : Meaning B) (j : Junction D B) (s : State) (h : Alike t m j s) (few : j.size.stations ≤ most_stations) (told : Told j.size.stations j.counts s) (fit : Small s) where

@@ -1,5 +1,5 @@
 -- The lines of the stations on the board, as a call of one station changes them.
-use Rattle.std.proofs.Common.{◌≡◌, ℕ, ◌*◌, ◌<◌, ◌≤◌, Bool, true, false, cond, ltb, ◌≢◌, Some, None, Option, sym, refl, ap, ◌∙◌, subst, arith, lt-ltb}
+use Rattle.std.proofs.Common.{◌≡◌, ℕ, ◌*◌, ◌<◌, ◌≤◌, Bool, true, false, cond, ltb, ◌≢◌, Some, None, Option, refl, ◌∙◌, arith, lt-ltb}
 use Rattle.std.proofs.lemmas.Bool.{cond_both}
 use Rattle.boards.specs.Lines.{Line, settled, loose, Meaning, Lawful}
 use Rattle.steps.specs.declared.lines.Part.{Part}
@@ -11,31 +11,12 @@ use Rattle.steps.specs.Table.{Table}
 use Rattle.runs.specs.Laws.{LinesApart}
 use Rattle.runs.specs.Runs.{same_part, stirs}
 use Rattle.junction.specs.Wires.{heard, settled_on, loosened_if, stirred_board}
-use Rattle.junction.proofs.Both.{clash}
 
 pub same_is : (x y : Part) → same_part x y ≡ true → x ≡ y
-same_is Door Door e = refl
-same_is Claim Claim e = refl
-same_is (Turn true) (Turn true) e = refl
-same_is (Turn false) (Turn false) e = refl
-same_is (Turn true) (Turn false) e = absurd (grind arith)
-same_is (Turn false) (Turn true) e = absurd (grind arith)
-same_is Door Claim e = absurd (grind arith)
-same_is Door (Turn f) e = absurd (grind arith)
-same_is Claim Door e = absurd (grind arith)
-same_is Claim (Turn f) e = absurd (grind arith)
-same_is (Turn f) Door e = absurd (grind arith)
-same_is (Turn f) Claim e = absurd (grind arith)
+same_is x y e = grind arith
 
 same_self : (x : Part) → same_part x x ≡ true
-same_self Door = refl
-same_self Claim = refl
-same_self (Turn true) = refl
-same_self (Turn false) = refl
-
-cond_same : {X : Type 0} (b : Bool) (x : X) → cond b x x ≡ x
-cond_same true x = refl
-cond_same false x = refl
+same_self x = grind arith
 
 -- a line x after y was loosened, where g says so
 abbrev loose_if : Bool → Part → Part → Line → Line
@@ -43,12 +24,7 @@ loose_if g y x v = cond g (cond (same_part y x) loose v) v
 
 -- four lines loosened one after the other, where g says so
 four_loose : (g : Part → Bool) (f : Part → Line) (x : Part) → loose_if (g (Turn true)) (Turn true) x (loose_if (g (Turn false)) (Turn false) x (loose_if (g Claim) Claim x (loose_if (g Door) Door x (f x)))) ≡ cond (g x) loose (f x)
-four_loose g f Door = cond_same (g (Turn true)) _ ∙ cond_same (g (Turn false)) _ ∙ cond_same (g Claim) _
-four_loose g f Claim = cond_same (g (Turn true)) _ ∙ cond_same (g (Turn false)) _ ∙ ap (λ z. cond (g Claim) loose z) (cond_same (g Door) _)
-four_loose g f (Turn false) =
-    cond_same (g (Turn true)) _ ∙ ap (λ z. cond (g (Turn false)) loose z) (cond_same (g Claim) _ ∙ cond_same (g Door) _)
-four_loose g f (Turn true) =
-    ap (λ z. cond (g (Turn true)) loose z) (cond_same (g (Turn false)) _ ∙ cond_same (g Claim) _ ∙ cond_same (g Door) _)
+four_loose g f x = grind arith
 
 module _ {B : Type 0} (t : Table) (m : Meaning B) (law : Lawful m) (apart : LinesApart t) (N : ℕ) where
   -- where the line of that name is on the board
@@ -72,29 +48,26 @@ module _ {B : Type 0} (t : Table) (m : Meaning B) (law : Lawful m) (apart : Line
   written b c d p f y k v here count now-v there h = record {
     count = count ∙ h.count;
     own_line = λ x l at.
-        cond_both (same_part y x) v (f x) (λ z. m.line d l ≡ z)
-        (λ e. ap (m.line d) (same_number x l at (same_is y x e)) ∙ now-v)
-        (λ e. there l (λ q. clash (same_part y x) (subst (λ z. same_part y z ≡ true) (ap (λ (z : Flag). z.part) (apart.apart N (flag p y) (flag p x) l (subst (At p y) q here) at)) (same_self y)) e) ∙ h.own_line x l at);
+        let one = apart.apart N (flag p y) (flag p x) l in
+        let same = same_is y x in
+        let self = same_self y in
+        let other = there l in
+        let own = h.own_line x l at in
+        grind arith;
     other_line = λ q x l n at.
-        there l (λ e. n (sym (ap (λ (z : Flag). z.station) (apart.apart N (flag p y) (flag q x) l (subst (At p y) e here) at)))) ∙ h.other_line q x l n at;
+        let one = apart.apart N (flag p y) (flag q x) l in
+        let other = there l in
+        let rest = h.other_line q x l n at in
+        grind arith;
   }
-    where
-      one_number : (i l : ℕ) → Some i ≡ Some l → l ≡ i
-      one_number i l e = cc
-
-      same_number : (x : Part) (l : ℕ) → At p x l → y ≡ x → l ≡ k
-      same_number x l at e = one_number k l (sym here ∙ ap (λ z. t.number N (flag p z)) e ∙ at)
 
   -- what is done to a line that has no number is done to no line
   nowhere_written : (b c : B) (p : ℕ) (f : Part → Line) (y : Part) (v : Line) → t.number N (flag p y) ≡ None → Touched b c p f → Touched b c p (λ x. cond (same_part y x) v (f x))
   nowhere_written b c p f y v none h = record {
     count = h.count;
-    own_line = λ x l at. cond_both (same_part y x) v (f x) (λ z. m.line c l ≡ z) (λ e. absurd (no_number l (sym none ∙ ap (λ z. t.number N (flag p z)) (same_is y x e) ∙ at))) (λ e. h.own_line x l at);
+    own_line = λ x l at. let same = same_is y x in let own = h.own_line x l at in grind arith;
     other_line = h.other_line;
   }
-    where
-      no_number : (l : ℕ) → ◌≡◌ {A = Option ℕ} None (Some l) → ⊥
-      no_number l e = let z : ◌≡◌ {A = ℕ} 0 1 = cc in omega arith
 
   number_cases : (x : Flag) (P : Type 0) → (t.number N x ≡ None → P) → ((l : ℕ) → t.number N x ≡ Some l → P) → P
   number_cases x P none some = at (t.number N x) refl

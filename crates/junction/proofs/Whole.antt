@@ -1,22 +1,19 @@
 -- The promise over whole runs, from the discipline's laws and the agreement of each call.
-use Rattle.std.proofs.Common.{◌≡◌, ℕ, suc, ◌<◌, ◌≤◌, ◌&&◌, eqb, ltb, ◌⊎◌, List, [], ◌∷◌, Some, None, Option, sym, refl, ap, ◌∙◌, subst, inl, inr}
-use Rattle.std.proofs.lemmas.Bool.{cond_both}
+use Rattle.std.proofs.Common.{◌≡◌, ℕ, suc, ◌<◌, ◌≤◌, ◌⊎◌, List, [], ◌∷◌, Some, None, Option, sym, refl, ap, ◌∙◌, subst, inl, inr, arith}
+use Rattle.std.proofs.lemmas.Bool.{both_ways}
 use Rattle.boards.specs.Lines.{Meaning, Lawful}
-use Rattle.steps.specs.declared.go.Go.{Go}
-use Rattle.steps.specs.declared.go.Go.TheVariants.{Idle, Waits, WrongPick, MustLeave, Moves, Settles}
-use Rattle.steps.specs.Rows.{idle_place, failed_place, flag}
+use Rattle.steps.specs.Rows.{flag}
 use Rattle.steps.specs.Table.{Table}
-use Rattle.runs.specs.Runs.{State, reply, next, run, made, limit, most_stations, holds, settles_some}
+use Rattle.runs.specs.Runs.{State, reply, next, run, made, limit, most_stations, holds}
 use Rattle.runs.specs.Words.{Counted}
 use Rattle.runs.specs.Laws.{LinesApart, OneHolder, NeverStuck, InOrder, InRange}
 use Rattle.junction.specs.declared.stations.Station.{Station}
 use Rattle.junction.specs.declared.state.Junction.{Junction}
-use Rattle.junction.specs.Wires.{hears, heard}
-use Rattle.junction.specs.Calls.{station, place, with_board, acted, allowed_leaves, look_of, go_of, next_go, may_take, current}
+use Rattle.junction.specs.Wires.{hears}
+use Rattle.junction.specs.Calls.{station, place, look_of}
 use Rattle.junction.specs.Telling.{HolderIs}
 use Rattle.junction.specs.Making.{new_junction}
-use Rattle.junction.specs.Promise.{Call, to_start, to_stir, to_fail, to_take, to_go, to_leave, to_void, call_leaves, call_answers, after, event, history, told, replied, Agrees, Holding, OthersStay, BoardServes, SafeMerge, ServedInOrder}
-use Rattle.junction.proofs.Both.{unless_both, clash}
+use Rattle.junction.specs.Promise.{Call, call_leaves, call_answers, after, event, history, told, replied, Agrees, Holding, OthersStay, BoardServes, SafeMerge, ServedInOrder}
 use Rattle.junction.proofs.Touch.{in_room}
 use Rattle.junction.proofs.Agree.{alike, call_step}
 use Rattle.junction.proofs.Tally.{Told, call_told}
@@ -27,29 +24,8 @@ use Rattle.junction.proofs.Refused.{call_stays}
 use Rattle.junction.proofs.Fresh.{Agreed, from_made, told_made}
 
 -- no call changes the junction's name
-module _ {D B : Type 0} (t : Table) (m : Meaning B) (j : Junction D B) where
-  abbrev Named : Junction D B → Type 0
-  Named x = x.name ≡ j.name
-
-  acted_name : (i : Junction D B) (p : ℕ) (g : Go) → (acted t m i p g).name ≡ i.name
-  acted_name i p Idle = refl
-  acted_name i p Waits = refl
-  acted_name i p WrongPick = refl
-  acted_name i p MustLeave = refl
-  acted_name i p (Moves x) = refl
-  acted_name i p (Settles y v x) = refl
-
-  allowed_name : (p : ℕ) (x : Junction D B) → Named x → Named (allowed_leaves t m j p x)
-  allowed_name p x h = unless_both Named (ltb p j.size.stations) (ltb j.counts.used limit) x j h refl
-
-  call_name : (c : Call) → Named (call_leaves t m j c)
-  call_name (to_start p) = allowed_name p _ (cond_both (eqb (place j p) idle_place) _ _ Named (λ _. refl) (λ _. refl))
-  call_name (to_stir p) = allowed_name p _ (cond_both (settles_some (next_go t m j p)) _ _ Named (λ _. refl) (λ _. refl))
-  call_name (to_fail p) = allowed_name p _ (cond_both (eqb (place j p) failed_place) _ _ Named (λ _. refl) (λ _. refl))
-  call_name (to_take p) = cond_both (ltb p j.size.stations) _ _ Named (λ _. cond_both (may_take t m j p) _ _ Named (λ _. refl) (λ _. refl)) (λ _. refl)
-  call_name (to_go p k) = allowed_name p _ (acted_name (with_board j (heard t m j.size.stations j.board (look_of t m j p k))) p (go_of t m j p k))
-  call_name (to_leave c) = cond_both (ltb c.station j.size.stations) _ _ Named (λ _. cond_both (eqb c.name j.name && current j c) _ _ Named (λ _. refl) (λ _. refl)) (λ _. refl)
-  call_name (to_void c) = refl
+call_name : {D B : Type 0} (t : Table) (m : Meaning B) (j : Junction D B) (c : Call) → (call_leaves t m j c).name ≡ j.name
+call_name t m j c = grind arith
 
 module _ {D B : Type 0} (t : Table) (m : Meaning B) (law : Lawful m) (apart : LinesApart t) where
   names : (j : Junction D B) (cs : List Call) → (after t m j cs).name ≡ j.name
@@ -131,7 +107,7 @@ module _ {D B : Type 0} (t : Table) (m : Meaning B) (law : Lawful m) (apart : Li
         at (inr (p, lt, h, e)) = inr (p, (lt, sym (held p lt) ∙ h), agrees.grants ∙ e ∙ ap suc (sym agrees.ends))
 
     holder : (r : Option ℕ) → HolderIs t j' r → (p : ℕ) → Holding t m j cs p → r ≡ Some p
-    holder None h p (lt, hold) = absurd (clash (holds t (place j' p)) hold (h p (subst (λ x. p < x) (sym end.size) lt)))
+    holder None h p (lt, hold) = absurd (both_ways (holds t (place j' p)) (h p (subst (λ x. p < x) (sym end.size) lt)) hold)
     holder (Some q) (lq, hq) p hold = ap Some (one_holder q p (subst (λ x. q < x) end.size lq, hq) hold)
 
     others_stay : OthersStay t m j cs

@@ -3,6 +3,7 @@ use Rattle.std.specs.Prelude.{◌≡◌, ℕ, Bool, true, false, cond, not, ◌&
 use Rattle.boards.specs.Lines.{Meaning}
 use Rattle.steps.specs.declared.record.Record.{Record}
 use Rattle.steps.specs.declared.lines.Flag.{Flag}
+use Rattle.steps.specs.declared.step.Step.{Step}
 use Rattle.steps.specs.declared.go.Go.{Go}
 use Rattle.steps.specs.declared.go.Go.TheVariants.{Idle, Waits, WrongPick, MustLeave, Moves, Settles}
 use Rattle.steps.specs.declared.answers.Outcome.{Outcome}
@@ -14,10 +15,11 @@ use Rattle.steps.specs.Table.{Table}
 use Rattle.runs.specs.Runs as runs
 use Rattle.runs.specs.Runs.{limit, holds, settles_some}
 use Rattle.junction.specs.declared.stations.Station.{Station}
+use Rattle.junction.specs.declared.stations.Slot.{Slot}
 use Rattle.junction.specs.declared.counts.Note.{Note}
 use Rattle.junction.specs.declared.pass.Pass.{Pass}
 use Rattle.junction.specs.declared.state.Junction.{Junction}
-use Rattle.junction.specs.Stations.{station_of, with_station, at_record, arrived, pass_taken}
+use Rattle.junction.specs.Stations.{station_of, with_station, at_record, arrived, pass_taken, is_since}
 use Rattle.junction.specs.Counts.{noted}
 use Rattle.junction.specs.Wires.{hears, heard, settled_on, stirred_board}
 
@@ -27,15 +29,15 @@ note a b c d = record { limited = a; granted = b; ended = c; shown = d }
 
 module _ {D B : Type 0} where
   abbrev pub with_board : Junction D B → B → Junction D B
-  with_board j b = record { discipline = j.discipline; size = j.size; name = j.name; stations = j.stations; counts = j.counts; board = b }
+  with_board j b = record j { board = b }
 
   -- A call of station p is counted.
   abbrev pub counting : Junction D B → ℕ → Note → Junction D B
-  counting j p k = record { discipline = j.discipline; size = j.size; name = j.name; stations = j.stations; counts = noted k j.size.stations p j.counts; board = j.board }
+  counting j p k = record j { counts = noted k j.size.stations p j.counts }
 
   -- Station p becomes x.
   abbrev pub putting : Junction D B → ℕ → Station → Junction D B
-  putting j p x = record { discipline = j.discipline; size = j.size; name = j.name; stations = with_station j.stations p x; counts = j.counts; board = j.board }
+  putting j p x = record j { stations = with_station j.stations p x }
 
   abbrev pub stepped : Junction D B → ℕ → Station → Note → Junction D B
   stepped j p x k = counting (putting j p x) p k
@@ -46,9 +48,22 @@ module _ {D B : Type 0} where
   abbrev pub place : Junction D B → ℕ → ℕ
   place j p = (station j p).rec.place
 
+  -- The step that a go of station p with the pick k asks for.
+  abbrev pub asked : Junction D B → ℕ → ℕ → Step
+  asked j p k = record { size = j.size; station = p; rec = (station j p).rec; pick = k }
+
+  -- What refuses every call of station p.
+  abbrev pub unknown : Junction D B → ℕ → Option Refusal
+  unknown j p = cond (nat_lt p j.size.stations) None (Some ref.NoStation)
+
   -- What refuses a start, go, stir or fail before its place is looked at.
   abbrev pub refused_first : Junction D B → ℕ → Option Refusal
   refused_first j p = cond (nat_lt p j.size.stations) (cond (nat_lt j.counts.used limit) None (Some ref.Limit)) (Some ref.NoStation)
+
+-- The slot of station p where nothing refuses, or else the refusal.
+abbrev pub SlotOf : ℕ → Option Refusal → Result Slot Refusal → Type 0
+SlotOf p o (Ok slot) = (slot.station ≡ p) × (o ≡ None)
+SlotOf p o (Err e) = o ≡ Some e
 
 -- One thing where nothing refuses, or else what is made of the refusal.
 abbrev pub unless : {X : Type 0} → Option Refusal → (Refusal → X) → X → X
@@ -132,7 +147,7 @@ module _ {D B : Type 0} (t : Table) (m : Meaning B) where
 
 -- A pass is current while its station stands on the merge since that arrival.
 abbrev pub current : {D B : Type 0} → Junction D B → Pass → Bool
-current j c = place j c.station == merge_place && c.arrival == (station j c.station).arrivals
+current j c = is_since c.arrival (station j c.station)
 
 module _ {D B : Type 0} (t : Table) (m : Meaning B) where
   abbrev pub leave_answers : Junction D B → Pass → Result Outcome (Pass × Refusal)

@@ -5,3 +5,4 @@ pub mod Calls
 pub mod Telling
 pub mod Making
 pub mod Promise
+pub mod TakeLeave

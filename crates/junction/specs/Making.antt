@@ -1,6 +1,7 @@
 -- Making a junction: what is refused, and what is made.
-use Rattle.std.specs.Prelude.{ℕ, ◌*◌, min, cond, ◌&&◌, replicate, Ok, Err, Result, nat_le}
+use Rattle.std.specs.Prelude.{ℕ, ◌*◌, min, cond, ◌&&◌, List, replicate, Ok, Err, Result, nat_le, codes}
 use Rattle.std.proofs.Common.{arith}
+use Rattle.numbers.specs.Numbers.{number_of}
 use Rattle.boards.specs.Lines.{Meaning}
 use Rattle.steps.specs.declared.size.Size.{Size}
 use Rattle.steps.specs.Table.{Table}
@@ -16,10 +17,13 @@ abbrev pub unfit_number : Unfit → ℕ
 unfit_number Stations = 1
 unfit_number Lines = 2
 
+abbrev pub unfit_text : Unfit → List ℕ
+unfit_text Stations = codes "no station, or more than 16"
+unfit_text Lines = codes "too few lines on the board"
+
 -- What a check answers, as a number: 0 where there can be a junction.
 abbrev pub check_number : Result (Unit {0}) Unfit → ℕ
-check_number (Ok x) = 0
-check_number (Err e) = unfit_number e
+check_number = number_of (λ done. 0) unfit_number
 
 -- The lines of n stations over b, or why there can be no junction of them.
 abbrev pub room_for : {B : Type 0} → Table → Meaning B → ℕ → B → Result ℕ Unfit

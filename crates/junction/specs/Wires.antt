@@ -1,6 +1,7 @@
 -- What a junction does on its board. A line that no station has, or that the board lacks, is left alone and read as low.
 use Rattle.std.specs.Prelude.{ℕ, zero, suc, Bool, true, false, cond, Some, None, Option, nat_lt}
 use Rattle.boards.specs.Lines.{Meaning}
+use Rattle.steps.specs.declared.lines.Part.{Part}
 use Rattle.steps.specs.declared.lines.Part.TheVariants.{Door, Claim, Turn}
 use Rattle.steps.specs.declared.lines.Flag.{Flag}
 use Rattle.steps.specs.declared.go.Go.{Go}
@@ -32,12 +33,12 @@ module _ {B : Type 0} (t : Table) (m : Meaning B) where
   abbrev pub loosened_if : Bool → ℕ → B → Flag → B
   loosened_if c N b x = cond c (loosened_on N b x) b
 
-  -- A stir of station p, which stands at that place and whose next go is g.
+  -- One line of station p in a stir of it: p stands at that place, and its next go is g.
+  abbrev pub stirred_part : ℕ → ℕ → ℕ → Go → Part → B → B
+  stirred_part N p place g x b = loosened_if (stirs place g x) N b (flag p x)
+
   abbrev pub stirred_board : ℕ → ℕ → ℕ → Go → B → B
-  stirred_board N p place g b =
-      loosened_if (stirs place g (Turn true)) N
-      (loosened_if (stirs place g (Turn false)) N (loosened_if (stirs place g Claim) N (loosened_if (stirs place g Door) N b (flag p Door)) (flag p Claim)) (flag p (Turn false)))
-      (flag p (Turn true))
+  stirred_board N p place g b = stirred_part N p place g (Turn true) (stirred_part N p place g (Turn false) (stirred_part N p place g Claim (stirred_part N p place g Door b)))
 
 -- All lines below k settled low.
 abbrev pub lowered : {B : Type 0} → Meaning B → B → ℕ → B

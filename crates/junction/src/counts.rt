@@ -1,12 +1,12 @@
 //! What a junction counts.
 ghost use Rattle.std.specs.Prelude.{◌≡◌, ℕ, Bool};
-ghost use Rattle.junction.specs.Counts.{more_if, seen_with, noted, new_counts};
+ghost use Rattle.junction.specs.Counts.{seen_with, noted, new_counts};
 
 use sets::Set;
 use steps::Size;
 
 /// How many holds of the merge were granted, how many have ended, and how many rounds.
-#[derive(Clone, Copy, PartialEq, Eq, Debug)]
+#[derive(Clone, Copy, PartialEq, Eq, Debug, Default)]
 pub struct Totals {
     pub grants: u64,
     pub ends: u64,
@@ -14,7 +14,7 @@ pub struct Totals {
 }
 
 /// The accepted calls that the limit counts, the totals, and the stations seen in this round.
-#[derive(Clone, Copy)]
+#[derive(Clone, Copy, Default)]
 pub struct Counts {
     pub(crate) used: u64,
     pub(crate) totals: Totals,
@@ -22,7 +22,8 @@ pub struct Counts {
 }
 
 /// What an accepted call counts as.
-#[derive(Clone, Copy)]
+// Four flags and no enum of calls: each is what one count, or the set of the stations seen, goes by.
+#[derive(Clone, Copy, Default)]
 pub struct Note {
     /// The limit counts it.
     pub(crate) limited: bool,
@@ -34,26 +35,11 @@ pub struct Note {
     pub(crate) shown: bool,
 }
 
-// One more where it rises. A count never comes near what 64 bits hold; the promise on `Junction::make` shows that.
-pub(crate) fn more(rises: bool, n: u64) -> u64
-    ensures { result ≡ more_if rises n }
-{
-    if rises && n < u64::MAX { n + 1 } else { n }
-}
-
 impl Counts {
     pub(crate) fn new() -> Self
         ensures { result ≡ new_counts }
     {
-        Counts {
-            used: 0,
-            totals: Totals {
-                grants: 0,
-                ends: 0,
-                rounds: 0,
-            },
-            seen: Set::empty(),
-        }
+        Counts::default()
     }
 
     fn seen_with(self, note: Note, p: usize) -> Set
@@ -66,26 +52,20 @@ impl Counts {
         }
     }
 
-    // A call of station p is counted. A round ends when all stations have been seen.
+    // A call of station p is counted. A round ends when all stations have been seen. No count comes near what 64 bits hold; the
+    // promise on `Junction::make` shows that.
     pub(crate) fn noted(self, note: Note, size: Size, p: usize) -> Self
         ensures { result ≡ noted note size.stations p self }
     {
         let seen = self.seen_with(note, p);
         let round = note.shown && seen.covers(size.stations);
-        let used = more(note.limited, self.used);
+        let used = self.used.saturating_add(note.limited.into());
         let totals = Totals {
-            grants: more(note.granted, self.totals.grants),
-            ends: more(note.ended, self.totals.ends),
-            rounds: more(round, self.totals.rounds),
+            grants: self.totals.grants.saturating_add(note.granted.into()),
+            ends: self.totals.ends.saturating_add(note.ended.into()),
+            rounds: self.totals.rounds.saturating_add(round.into()),
         };
-        if round {
-            Counts {
-                used,
-                totals,
-                seen: Set::empty(),
-            }
-        } else {
-            Counts { used, totals, seen }
-        }
+        let seen = if round { Set::empty() } else { seen };
+        Counts { used, totals, seen }
     }
 }

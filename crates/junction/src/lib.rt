@@ -12,7 +12,8 @@ mod telling;
 mod wires;
 
 pub use counts::Totals;
-pub use making::{Unfit, check_number};
+pub use making::Unfit;
+pub use numbers::Numbered;
 pub use pass::Pass;
 pub use state::Junction;
 pub use steps::{Outcome, Refusal};

@@ -12,21 +12,18 @@ use steps::MERGING;
 impl<D: Discipline, B: Board> Junction<D, B> {
     // Whether a station that stands there holds the merge.
     pub(crate) fn holds(place: u8) -> bool
-        ensures { result ≡ holds D.Discipline.table place }
+        ensures { result ≡ holds D.table place }
     {
-        D::grant() <= place && place <= MERGING
+        (D::grant()..=MERGING).contains(&place)
     }
 
     /// The station that holds the merge, or none.
     pub fn holder(&self) -> Option<usize>
-        ensures { HolderIs D.Discipline.table self.now result }
+        ensures { HolderIs D.table self.now result }
     {
-        for p in 0..self.size.stations {
-            if Self::holds(self.stations.get(p).rec.place) {
-                return Some(p);
-            }
-        }
-        None
+        self.stations.at[..self.size.stations]
+            .iter()
+            .position(|x| Self::holds(x.rec.place))
     }
 
     /// Grants, ends and rounds.
@@ -36,14 +33,12 @@ impl<D: Discipline, B: Board> Junction<D, B> {
         self.counts.totals
     }
 
-    /// Where a station stands; none where there is no such station.
+    /// Where a station stands, as the number that a record keeps; none where there is no such station.
     pub fn place(&self, p: usize) -> Option<u8>
         ensures { result ≡ place_at self.now p }
     {
-        if p < self.size.stations {
-            Some(self.stations.get(p).rec.place)
-        } else {
-            None
-        }
+        self.slot(p)
+            .ok()
+            .map(|slot| self.stations.get(slot).rec.place)
     }
 }

@@ -1,132 +1,83 @@
 //! What a junction does on its board: lines are named, and only here is a name turned into a number.
-ghost use Rattle.std.specs.Prelude.{◌≡◌, Bool};
-ghost use Rattle.steps.specs.Rows.{flag};
-ghost use Rattle.runs.specs.Runs.{same_part, settles, settles_some, stirs};
-ghost use Rattle.junction.specs.Wires.{hears, heard, settled_on, loosened_on, loosened_if, stirred_board, lowered};
+ghost use Rattle.std.specs.Prelude.{◌≡◌};
+ghost use Rattle.runs.specs.Runs.{settles_some, stirs};
+ghost use Rattle.junction.specs.Calls.{with_board};
+ghost use Rattle.junction.specs.Wires.{hears, heard, settled_on, loosened_on, stirred_part, stirred_board, lowered};
 
+use crate::state::Junction;
 use boards::Board;
 use disciplines::Discipline;
-use steps::{FAILED, Flag, Go, Part, Size};
-
-fn same_part(part: Part, other: Part) -> bool
-    ensures { result ≡ same_part part other }
-{
-    match (part, other) {
-        (Part::Door, Part::Door) => true,
-        (Part::Claim, Part::Claim) => true,
-        (Part::Turn(true), Part::Turn(side)) => side,
-        (Part::Turn(false), Part::Turn(side)) => !side,
-        _ => false,
-    }
-}
-
-// Whether a go that does this settles a line of this kind.
-fn settles_part(part: Part, go: Go) -> bool
-    ensures { result ≡ settles part go }
-{
-    match go {
-        Go::Settles(own, _, _) => same_part(part, own),
-        _ => false,
-    }
-}
+use steps::{FAILED, Flag, Go, Part, Step};
 
 // Whether a go that does this settles a line.
 pub(crate) fn settles_some(go: Go) -> bool
     ensures { result ≡ settles_some go }
 {
-    match go {
-        Go::Settles(_, _, _) => true,
-        _ => false,
-    }
+    matches!(go, Go::Settles(..))
 }
 
 // Whether a stir loosens the line: at 39 every line of the station, else the one that the next go settles.
 fn stirs_part(place: u8, go: Go, part: Part) -> bool
     ensures { result ≡ stirs place go part }
 {
-    if place == FAILED {
-        true
-    } else {
-        settles_part(part, go)
-    }
+    place == FAILED || matches!(go, Go::Settles(own, _, _) if part == own)
 }
 
-// The line that a go looks at is read. Where there is none, or the board lacks it, the reading is low.
-pub(crate) fn hear<D: Discipline, B: Board>(board: &mut B, size: Size, look: Option<Flag>) -> bool
-    ensures answers { result ≡ hears D.Discipline.table B.Board.meaning size.stations board.old look }
-    ensures leaves { board.new ≡ heard D.Discipline.table B.Board.meaning size.stations board.old look }
-{
-    let Some(flag) = look else {
-        return false;
-    };
-    let Some(line) = D::number(size, flag) else {
-        return false;
-    };
-    match board.read(line) {
-        Ok(high) => high,
-        Err(_) => false,
+impl<D: Discipline, B: Board> Junction<D, B> {
+    // The line that a go looks at is read. Where there is none, or the board lacks it, the reading is low.
+    pub(crate) fn hear(&mut self, look: Option<Flag>) -> bool
+        ensures answers { result ≡ hears D.table B.meaning self.old.size.stations self.old.board look }
+        ensures leaves { self.new ≡ with_board self.old (heard D.table B.meaning self.old.size.stations self.old.board look) }
+    {
+        let Some(line) = look.and_then(|flag| D::number(self.size, flag)) else {
+            return false;
+        };
+        self.board.read(line).unwrap_or(false)
     }
-}
 
-pub(crate) fn settle<D: Discipline, B: Board>(board: &mut B, size: Size, flag: Flag, high: bool)
-    ensures { board.new ≡ settled_on D.Discipline.table B.Board.meaning size.stations board.old flag high }
-{
-    if let Some(line) = D::number(size, flag) {
-        let _ = board.settle(line, high);
+    // (One function for settle and loosen, of the call that it makes, was tried: what a closure leaves of the board stays open.)
+    pub(crate) fn settle(&mut self, flag: Flag, high: bool)
+        ensures { self.new ≡ with_board self.old (settled_on D.table B.meaning self.old.size.stations self.old.board flag high) }
+    {
+        if let Some(line) = D::number(self.size, flag) {
+            let _ = self.board.settle(line, high);
+        }
     }
-}
 
-fn loosen<D: Discipline, B: Board>(board: &mut B, size: Size, flag: Flag)
-    ensures { board.new ≡ loosened_on D.Discipline.table B.Board.meaning size.stations board.old flag }
-{
-    if let Some(line) = D::number(size, flag) {
-        let _ = board.loosen(line);
+    fn loosen(&mut self, flag: Flag)
+        ensures { self.new ≡ with_board self.old (loosened_on D.table B.meaning self.old.size.stations self.old.board flag) }
+    {
+        if let Some(line) = D::number(self.size, flag) {
+            let _ = self.board.loosen(line);
+        }
     }
-}
 
-fn loosen_if<D: Discipline, B: Board>(board: &mut B, size: Size, loosens: bool, flag: Flag)
-    ensures { board.new ≡ loosened_if D.Discipline.table B.Board.meaning loosens size.stations board.old flag }
-{
-    if loosens {
-        loosen::<D, B>(board, size, flag);
+    // One line of the station of a step, whose next go is this, in a stir of that station.
+    fn stir_part(&mut self, step: Step, go: Go, part: Part)
+        ensures { self.new ≡ with_board self.old (stirred_part D.table B.meaning self.old.size.stations step.station step.rec.place go part self.old.board) }
+    {
+        if stirs_part(step.rec.place, go, part) {
+            self.loosen(Flag {
+                station: step.station,
+                part,
+            });
+        }
     }
-}
 
-// A stir of station p, which stands at this place and whose next go is this.
-pub(crate) fn stir_lines<D: Discipline, B: Board>(
-    board: &mut B,
-    size: Size,
-    p: usize,
-    place: u8,
-    go: Go,
-)
-    ensures { board.new ≡ stirred_board D.Discipline.table B.Board.meaning size.stations p place go board.old }
-{
-    let door = Flag {
-        station: p,
-        part: Part::Door,
-    };
-    let claim = Flag {
-        station: p,
-        part: Part::Claim,
-    };
-    let turn0 = Flag {
-        station: p,
-        part: Part::Turn(false),
-    };
-    let turn1 = Flag {
-        station: p,
-        part: Part::Turn(true),
-    };
-    loosen_if::<D, B>(board, size, stirs_part(place, go, Part::Door), door);
-    loosen_if::<D, B>(board, size, stirs_part(place, go, Part::Claim), claim);
-    loosen_if::<D, B>(board, size, stirs_part(place, go, Part::Turn(false)), turn0);
-    loosen_if::<D, B>(board, size, stirs_part(place, go, Part::Turn(true)), turn1);
+    // A stir of the station of a step, whose next go is this. Four calls: a `for` over the parts would want an invariant longer than they are.
+    pub(crate) fn stir_lines(&mut self, step: Step, go: Go)
+        ensures { self.new ≡ with_board self.old (stirred_board D.table B.meaning self.old.size.stations step.station step.rec.place go self.old.board) }
+    {
+        self.stir_part(step, go, Part::Door);
+        self.stir_part(step, go, Part::Claim);
+        self.stir_part(step, go, Part::Turn(false));
+        self.stir_part(step, go, Part::Turn(true));
+    }
 }
 
 // Settles the first `lines` lines low.
 pub(crate) fn lower<B: Board>(board: &mut B, lines: usize)
-    ensures { board.new ≡ lowered B.Board.meaning board.old lines }
+    ensures { board.new ≡ lowered B.meaning board.old lines }
 {
     for line in 0..lines {
         let _ = board.settle(line, false);

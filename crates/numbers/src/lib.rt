@@ -5,6 +5,8 @@ ghost use Rattle.std.specs.Prelude.{◌≡◌, ℕ};
 ghost use Rattle.numbers.specs.Numbers.{number_of};
 
 /// What has a number on the slip.
+// A trait and no `From` into `u8`, which could not be given for `Result`. Each enum says `self as u8` itself, since an impl that a
+// macro of ours writes is not admitted.
 pub trait Numbered {
     /// The number of each value.
     ghost numbered: { Self → ℕ };

@@ -24,7 +24,7 @@ abbrev pub kept_at : OddBoard → ℕ → Kept
 kept_at b i = slice_index_or b.lines i Low
 
 abbrev pub with_line : OddBoard → ℕ → Kept → OddBoard
-with_line b i k = record { lines = slice_set b.lines i k; reads = b.reads }
+with_line b i k = record b { lines = slice_set b.lines i k }
 
 abbrev pub new_odd : OddBoard
 new_odd = record { lines = replicate 16 Low; reads = 0 }
@@ -35,7 +35,7 @@ odd = record {
   count = λ b. length b.lines;
   line = λ b i. shown (kept_at b i);
   answer = λ b i. heard (kept_at b i) (b.reads % 2 == 1);
-  after_read = λ b i. record { lines = b.lines; reads = (b.reads + 1) % 256 };
+  after_read = λ b i. record b { reads = (b.reads + 1) % 256 };
   loosened = λ b i. with_line b i Loose;
   set_to = λ b i v. with_line b i (settled_at v);
 }

@@ -1,14 +1,15 @@
 //! The odd board.
-ghost use Rattle.std.specs.Prelude.{◌≡◌, Bool, length};
-ghost use Rattle.odd_board.specs.Odd.{heard, settled_at, odd, odd_lawful, new_odd};
+ghost use Rattle.std.specs.Prelude.{◌≡◌, Bool, length, Ok, Err};
+ghost use Rattle.boards.specs.Lines.{within};
+ghost use Rattle.odd_board.specs.Odd.{heard, settled_at, with_line, odd, odd_lawful, new_odd};
 
-use boards::{Board, Refused};
+use boards::{Board, Refused, known_line};
 
 /// How many lines the board has: those of four stations of four lines.
 const LINES: usize = 16;
 
 /// A line as this board keeps it.
-#[derive(Clone, Copy)]
+#[derive(Clone, Copy, Debug, PartialEq, Eq)]
 pub(crate) enum Kept {
     Low,
     High,
@@ -26,10 +27,12 @@ impl Kept {
             Kept::Loose => loose,
         }
     }
+}
 
-    fn settled(high: bool) -> Kept
-        ensures { result ≡ settled_at high }
-    {
+impl From<bool> for Kept {
+    ghost from_gives = { λ high kept. kept ≡ settled_at high };
+
+    fn from(high: bool) -> Self {
         if high { Kept::High } else { Kept::Low }
     }
 }
@@ -53,12 +56,14 @@ impl OddBoard {
         }
     }
 
-    // The array's own length, so this is right of every value.
-    fn size(&self) -> usize
-        ensures { result ≡ length self.now.lines }
+    // The line is kept so from now on.
+    fn set(&mut self, line: usize, kept: Kept) -> Result<(), Refused>
+        ensures answers { result ≡ within line (length self.old.lines) (Ok tt) (Err Refused.NoLine) }
+        ensures leaves { self.new ≡ within line (length self.old.lines) (with_line self.old line kept) self.old }
     {
-        let lines: &[Kept] = &self.lines;
-        lines.len()
+        let i = known_line(line, self.lines.len())?;
+        self.lines[i] = kept;
+        Ok(())
     }
 }
 
@@ -68,31 +73,21 @@ impl Board for OddBoard {
     ghost lawful = { odd_lawful };
 
     fn count(&self) -> usize {
-        self.size()
+        self.lines.len()
     }
 
     fn read(&mut self, line: usize) -> Result<bool, Refused> {
-        if line >= self.size() {
-            return Err(Refused::NoLine);
-        }
-        let high = self.lines[line].heard(self.reads % 2 == 1);
+        let i = known_line(line, self.count())?;
+        let high = self.lines[i].heard(self.reads % 2 == 1);
         self.reads = self.reads.wrapping_add(1);
         Ok(high)
     }
 
     fn loosen(&mut self, line: usize) -> Result<(), Refused> {
-        if line >= self.size() {
-            return Err(Refused::NoLine);
-        }
-        self.lines[line] = Kept::Loose;
-        Ok(())
+        self.set(line, Kept::Loose)
     }
 
     fn settle(&mut self, line: usize, high: bool) -> Result<(), Refused> {
-        if line >= self.size() {
-            return Err(Refused::NoLine);
-        }
-        self.lines[line] = Kept::settled(high);
-        Ok(())
+        self.set(line, high.into())
     }
 }

@@ -1,7 +1,3 @@
-pub mod Played
-pub mod WrittenIs
-pub mod LeftIs
 pub mod TextIs
+pub mod GoesOn
 pub mod Noted
-pub mod Ended
-pub mod Over

@@ -1,3 +1,3 @@
 pub mod OneEvent
-pub mod Plays
 pub mod Report
+pub mod Account

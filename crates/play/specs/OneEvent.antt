@@ -1,15 +1,18 @@
 -- What one event of a schedule does, by the junction's own calls.
 use Rattle.std.specs.Prelude.{ℕ, cond, List, [], ◌∷◌, Some, None, Ok, Err, Option, Result, nat_lt}
+use Rattle.std.specs.Option.{unwrap_or}
 use Rattle.boards.specs.Lines.{Meaning}
 use Rattle.steps.specs.declared.answers.Outcome.{Outcome}
 use Rattle.steps.specs.declared.answers.Refusal.{Refusal}
 use Rattle.steps.specs.Answers.{refusal_number, answer_number}
 use Rattle.steps.specs.Table.{Table}
+use Rattle.junction.specs.declared.counts.Totals.{Totals}
 use Rattle.junction.specs.declared.pass.Pass.{Pass}
 use Rattle.junction.specs.declared.state.Junction.{Junction}
-use Rattle.junction.specs.Calls.{start_answers, go_answers, stir_answers, fail_answers, take_answers, take_leaves, leave_answers, leave_leaves}
+use Rattle.junction.specs.Calls.{start_answers, go_answers, stir_answers, fail_answers, take_answers}
+use Rattle.junction.specs.TakeLeave.{take_leave_answers}
 use Rattle.junction.specs.Telling.{place_at}
-use Rattle.junction.specs.Promise.{Call, to_start, to_stir, to_fail, to_take, to_go, to_leave, after, handing}
+use Rattle.junction.specs.Promise.{Call, to_start, to_stir, to_fail, to_take, to_go, to_leave, after}
 use Rattle.schedule.specs.declared.event.Event.{Event}
 use Rattle.schedule.specs.declared.event.Event.TheVariants.{Start, Go, Stir, Fail, Leave}
 use Rattle.schedule.specs.Letters.{letter_of, station_of}
@@ -24,21 +27,12 @@ take_calls p (Ok pass) = to_leave pass ∷ (to_take p ∷ [])
 take_calls p (Err e) = to_take p ∷ []
 
 module _ {D B : Type 0} (t : Table) (m : Meaning B) where
-  -- A pass that was taken is handed in at once; a refused take is the answer.
-  abbrev pub left_answers : Junction D B → Result Pass Refusal → Result Outcome Refusal
-  left_answers j (Ok pass) = handing (leave_answers t m j pass)
-  left_answers j (Err e) = Err e
-
-  abbrev pub left_leaves : Junction D B → Result Pass Refusal → Junction D B
-  left_leaves j (Ok pass) = leave_leaves t m j pass
-  left_leaves j (Err e) = j
-
-  unfoldable pub answer : Junction D B → Event → Result Outcome Refusal
+  abbrev pub answer : Junction D B → Event → Result Outcome Refusal
   answer j (Start p) = start_answers t m j p
   answer j (Go p k) = go_answers t m j p k
   answer j (Stir p) = stir_answers t m j p
   answer j (Fail p) = fail_answers t m j p
-  answer j (Leave p) = left_answers (take_leaves t m j p) (take_answers t m j p)
+  answer j (Leave p) = take_leave_answers t m j p
 
   -- The calls that an event makes, the newest first: one, or the two of an L.
   abbrev pub calls_of : Junction D B → Event → List Call
@@ -49,26 +43,21 @@ module _ {D B : Type 0} (t : Table) (m : Meaning B) where
   calls_of j (Leave p) = take_calls p (take_answers t m j p)
 
   -- The junction after an event is the one that its calls leave, so that the promise over all lists of calls speaks of it.
-  unfoldable pub after_event : Junction D B → Event → Junction D B
+  abbrev pub after_event : Junction D B → Event → Junction D B
   after_event j e = after t m j (calls_of j e)
 
--- The place that a line shows: 0 for an unknown station.
-abbrev pub place_shown : Option ℕ → ℕ
-place_shown None = 0
-place_shown (Some n) = n
-
--- Noted where the event raised the junction's count of grants.
-abbrev pub grant_between : {D B : Type 0} → Junction D B → Junction D B → ℕ → Option GrantEntry
-grant_between j k p = cond (nat_lt j.counts.totals.grants k.counts.totals.grants) (Some (record { station = p; rounds = k.counts.totals.rounds })) None
+-- Noted where an event raised the junction's count of grants.
+abbrev pub grant_between : Totals → Totals → ℕ → Option GrantEntry
+grant_between before after p = cond (nat_lt before.grants after.grants) (Some (record { station = p; rounds = after.rounds })) None
 
 abbrev pub refusal_of : Result Outcome Refusal → Event → ℕ → Option RefusalEntry
 refusal_of (Ok o) e i = None
 refusal_of (Err r) e i = Some (record { event = e; index = i; number = refusal_number r })
 
--- What event e, which stands at index i, comes to: its line, and what is noted.
-unfoldable pub written_of : {D B : Type 0} → Table → Meaning B → Junction D B → Event → ℕ → Written
+-- What event e, which stands at index i, comes to: its line, which shows place 0 for an unknown station, and what is noted.
+abbrev pub written_of : {D B : Type 0} → Table → Meaning B → Junction D B → Event → ℕ → Written
 written_of t m j e i = record {
-  line = event_line (letter_of e) (station_of e) (place_shown (place_at (after_event t m j e) (station_of e))) (answer_number (answer t m j e));
-  grant = grant_between j (after_event t m j e) (station_of e);
+  line = event_line (letter_of e) (station_of e) (unwrap_or (place_at (after_event t m j e) (station_of e)) 0) (answer_number (answer t m j e));
+  grant = grant_between j.counts.totals (after_event t m j e).counts.totals (station_of e);
   refusal = refusal_of (answer t m j e) e i;
 }

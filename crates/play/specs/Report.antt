@@ -3,10 +3,8 @@ use Rattle.std.specs.Prelude.{◌≡◌, ℕ, ◌+◌, List, [], ◌∷◌, ◌+
 use Rattle.std.specs.Borrow.{Bor}
 use Rattle.std.specs.Option.{option_to_list}
 use Rattle.boards.specs.Lines.{Meaning}
-use Rattle.boards.specs.declared.hold.Hold.{Hold}
-use Rattle.boards.specs.declared.tape.Tape.{Tape}
-use Rattle.boards.specs.Hold.{hold, new_hold}
-use Rattle.boards.specs.Tape.{tape, new_tape}
+use Rattle.boards.specs.Hold.{Hold, hold, new_hold}
+use Rattle.boards.specs.Tape.{Tape, tape, new_tape}
 use Rattle.disciplines.specs.declared.four_line.FourLine.{FourLine}
 use Rattle.disciplines.specs.declared.plain.Plain.{Plain}
 use Rattle.steps.specs.Table.{Table}

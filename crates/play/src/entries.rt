@@ -2,7 +2,7 @@
 use schedule::Event;
 
 /// A hold that was granted, and the rounds by then.
-#[derive(Clone, Copy)]
+#[derive(Clone, Copy, Default)]
 pub struct GrantEntry {
     pub station: u8,
     pub rounds: u64,
@@ -13,5 +13,6 @@ pub struct GrantEntry {
 pub struct RefusalEntry {
     pub event: Event,
     pub index: usize,
+    /// As the number that the report shows: the rules have it noted so.
     pub number: u8,
 }

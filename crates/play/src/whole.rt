@@ -1,22 +1,22 @@
 //! The report of a schedule.
-ghost use Rattle.std.specs.Prelude.{◌≡◌, ◌+◌, ◌*◌, ◌≤◌, length};
+ghost use Rattle.std.specs.Prelude.{◌≡◌, ◌≤◌};
 ghost use Rattle.trails.specs.Meaning.{held};
 ghost use Rattle.junction.specs.Promise.{after};
-ghost use Rattle.schedule.specs.View.{plan, Sound};
-ghost use Rattle.play.specs.Report.{all_calls, shown, shown_on, Stands, EndsByCalls, Reported};
+ghost use Rattle.schedule.specs.View.{plan};
+ghost use Rattle.play.specs.Account.{Same, Tells};
+ghost use Rattle.play.specs.Report.{all_calls, shown, shown_on, EndsByCalls, Reported};
 
+use crate::account::{Account, REPORT_BYTES, write_at};
 use crate::entries::{GrantEntry, RefusalEntry};
+use crate::event::LINE;
 use crate::events::play_events;
-use crate::text::write_at;
 use boards::{Board, Hold, Tape};
 use disciplines::{Discipline, FourLine, Plain};
 use junction::Junction;
+use numbers::Numbered;
 use report::{end_line, refusal_line};
 use schedule::{DisciplineKind, Schedule, parse};
 use trails::Trail;
-
-/// The bytes of the longest report: 16,384 lines of twelve bytes, and the end line.
-pub const REPORT_BYTES: usize = 196_628;
 
 /// The lines of the bench's boards.
 const LINES: usize = 64;
@@ -28,55 +28,47 @@ const NAME: u32 = 1;
 fn play_on<D: Discipline, B: Board>(
     j: &mut Junction<D, B>,
     schedule: &Schedule<'_>,
-    out: &mut [u8],
-    grants: &mut Trail<'_, GrantEntry>,
-    refusals: &mut Trail<'_, RefusalEntry>,
+    account: &mut Account<'_, '_, '_>,
 ) -> usize
-    requires { (Sound schedule.now) × (12 * length (plan schedule.now).events + 20 ≤ length out.old) }
-    ensures shown { Stands (shown D.Discipline.table B.Board.meaning j.old (plan schedule.now).events) out.old out.new result (held grants.old) (held grants.new) (held refusals.old) (held refusals.new) }
-    ensures calls { j.new ≡ after D.Discipline.table B.Board.meaning j.old (all_calls D.Discipline.table B.Board.meaning j.old (plan schedule.now).events) }
-    ensures grants { grants.new.slots.ghost_name ≡ grants.old.slots.ghost_name }
-    ensures refusals { refusals.new.slots.ghost_name ≡ refusals.old.slots.ghost_name }
+    ensures shown { Tells (shown D.table B.meaning j.old (plan schedule.now).events) account.old account.new result }
+    ensures calls { j.new ≡ after D.table B.meaning j.old (all_calls D.table B.meaning j.old (plan schedule.now).events) }
+    ensures same { Same account.old account.new }
 {
-    play_events(j, schedule, out, grants, refusals);
+    play_events(j, schedule, account);
     let totals = j.totals();
-    let at = 12 * schedule.len();
-    write_at(
-        out,
-        at,
-        &end_line(totals.grants, totals.ends, totals.rounds),
-    );
-    at + 20
+    let at = LINE * schedule.len();
+    let line = end_line(totals.grants, totals.ends, totals.rounds);
+    write_at(account.out, at, &line);
+    at + line.len()
 }
 
 // Plays the schedule on a new junction of its discipline over the board.
 fn play_over<B: Board + Drop>(
     board: B,
     schedule: &Schedule<'_>,
-    out: &mut [u8],
-    grants: &mut Trail<'_, GrantEntry>,
-    refusals: &mut Trail<'_, RefusalEntry>,
+    account: &mut Account<'_, '_, '_>,
 ) -> usize
-    requires { (Sound schedule.now) × (12 * length (plan schedule.now).events + 20 ≤ length out.old) }
-    ensures shown { Stands (shown_on B.Board.meaning board (plan schedule.now) (plan schedule.now).discipline) out.old out.new result (held grants.old) (held grants.new) (held refusals.old) (held refusals.new) }
-    ensures grants { grants.new.slots.ghost_name ≡ grants.old.slots.ghost_name }
-    ensures refusals { refusals.new.slots.ghost_name ≡ refusals.old.slots.ghost_name }
+    ensures shown { Tells (shown_on B.meaning board (plan schedule.now) (plan schedule.now).discipline) account.old account.new result }
+    ensures same { Same account.old account.new }
 {
-    let stations = schedule.stations() as usize;
+    let stations = usize::from(schedule.stations());
     match schedule.discipline() {
         DisciplineKind::FourLine => {
             let mut j = Junction::make_fair(FourLine, stations, NAME, board);
-            play_on(&mut j, schedule, out, grants, refusals)
+            play_on(&mut j, schedule, account)
         }
         DisciplineKind::Plain => {
             let mut j = Junction::make(Plain, stations, NAME, board);
-            play_on(&mut j, schedule, out, grants, refusals)
+            play_on(&mut j, schedule, account)
         }
     }
 }
 
 /// Plays the schedule in the bytes, writes its report to the front of the buffer and tells how long it is. Bytes that are no
 /// schedule get the line of their refusal.
+// The length stands beside the caller's buffer: a `Vec` can fail to grow, and a report is always written; were the bytes handed
+// out as a slice, no clause could say what the whole buffer holds.
+#[tactic(auto, using(crate::proofs::Noted::ends_by_calls))]
 pub fn write_report(
     bytes: &[u8],
     out: &mut [u8; REPORT_BYTES],
@@ -85,6 +77,7 @@ pub fn write_report(
 ) -> usize
     ensures calls { EndsByCalls }
     ensures all { Reported bytes.now out.old out.new result (held grants.old) (held grants.new) (held refusals.old) (held refusals.new) }
+    ensures fits { result ≤ REPORT_BYTES }
     ensures grants { grants.new.slots.ghost_name ≡ grants.old.slots.ghost_name }
     ensures refusals { refusals.new.slots.ghost_name ≡ refusals.old.slots.ghost_name }
 {
@@ -96,10 +89,15 @@ pub fn write_report(
             return line.len();
         }
     };
+    let mut account = Account {
+        out,
+        grants,
+        refusals,
+    };
     let noise = schedule.noise();
     if noise.is_empty() {
-        play_over(Hold::new(LINES), &schedule, out, grants, refusals)
+        play_over(Hold::new(LINES), &schedule, &mut account)
     } else {
-        play_over(Tape::new(LINES, noise), &schedule, out, grants, refusals)
+        play_over(Tape::new(LINES, noise), &schedule, &mut account)
     }
 }

@@ -1,37 +1,17 @@
 //! Decimal digits.
-ghost use Rattle.std.specs.Prelude.{◌≡◌, ◌+◌, ◌%◌};
-ghost use Rattle.report.specs.Digits.{padded, zero_digit};
+ghost use Rattle.std.specs.Prelude.{◌≡◌};
+ghost use Rattle.report.specs.Digits.{padded};
 
-// The last decimal digit.
-fn digit(n: u64) -> u8
-    ensures { result ≡ zero_digit + n % 10 }
+/// The last `W` decimal digits, the highest first.
+// By hand and by index, since after a `write!` into a slice, and after `iter_mut`, a proof does not know what the bytes are.
+pub(crate) fn digits<const W: usize>(n: u64) -> [u8; W]
+    ensures { result ≡ padded W n }
 {
-    b'0' + (n % 10) as u8
-}
-
-/// The last two decimal digits.
-pub(crate) fn two(n: u64) -> [u8; 2]
-    ensures { result ≡ padded 2 n }
-{
-    [digit(n / 10), digit(n)]
-}
-
-/// The last three decimal digits.
-pub(crate) fn three(n: u64) -> [u8; 3]
-    ensures { result ≡ padded 3 n }
-{
-    [digit(n / 10 / 10), digit(n / 10), digit(n)]
-}
-
-/// The last five decimal digits.
-pub(crate) fn five(n: u64) -> [u8; 5]
-    ensures { result ≡ padded 5 n }
-{
-    [
-        digit(n / 10 / 10 / 10 / 10),
-        digit(n / 10 / 10 / 10),
-        digit(n / 10 / 10),
-        digit(n / 10),
-        digit(n),
-    ]
+    let mut bytes = [b'0'; W];
+    let mut rest = n;
+    for i in (0..W).rev() {
+        bytes[i] = b'0' + (rest % 10) as u8;
+        rest /= 10;
+    }
+    bytes
 }

@@ -1,9 +1,9 @@
-//! The three kinds of line.
+//! The three kinds of line. Places and answers come as numbers, since a report shows numbers and this crate knows no enum behind them.
 ghost use Rattle.std.specs.Prelude.{◌≡◌, ◌%◌};
 ghost use Rattle.report.specs.Digits.{number_at};
 ghost use Rattle.report.specs.Lines.{event_line, end_line, refusal_line};
 
-use crate::digits::{five, three, two};
+use crate::digits::digits;
 
 /// The line of an event: its letter, station in three digits, place in two and answer in two.
 pub fn event_line(letter: u8, station: u8, place: u8, answer: u8) -> [u8; 12]
@@ -12,10 +12,12 @@ pub fn event_line(letter: u8, station: u8, place: u8, answer: u8) -> [u8; 12]
     ensures place { number_at result 6 2 ≡ place % 100 }
     ensures answer { number_at result 9 2 ≡ answer % 100 }
 {
-    let [s, t, u] = three(u64::from(station));
-    let [p, q] = two(u64::from(place));
-    let [a, b] = two(u64::from(answer));
-    [letter, b' ', s, t, u, b' ', p, q, b' ', a, b, b'\n']
+    let mut line = *b". ... .. ..\n";
+    line[0] = letter;
+    line[2..5].copy_from_slice(&digits::<3>(u64::from(station)));
+    line[6..8].copy_from_slice(&digits::<2>(u64::from(place)));
+    line[9..11].copy_from_slice(&digits::<2>(u64::from(answer)));
+    line
 }
 
 /// The last line of a report: grants, ends and rounds, each in five digits.
@@ -25,12 +27,11 @@ pub fn end_line(grants: u64, ends: u64, rounds: u64) -> [u8; 20]
     ensures ends { number_at result 8 5 ≡ ends % 100000 }
     ensures rounds { number_at result 14 5 ≡ rounds % 100000 }
 {
-    let [a, b, c, d, e] = five(grants);
-    let [f, g, h, i, j] = five(ends);
-    let [k, l, m, n, o] = five(rounds);
-    [
-        b'E', b' ', a, b, c, d, e, b' ', f, g, h, i, j, b' ', k, l, m, n, o, b'\n',
-    ]
+    let mut line = *b"E ..... ..... .....\n";
+    line[2..7].copy_from_slice(&digits::<5>(grants));
+    line[8..13].copy_from_slice(&digits::<5>(ends));
+    line[14..19].copy_from_slice(&digits::<5>(rounds));
+    line
 }
 
 /// The only line of a refused schedule: the number of the refusal in two digits and its index in five.
@@ -39,7 +40,8 @@ pub fn refusal_line(number: u8, index: usize) -> [u8; 11]
     ensures number { number_at result 2 2 ≡ number % 100 }
     ensures index { number_at result 5 5 ≡ index % 100000 }
 {
-    let [p, q] = two(u64::from(number));
-    let [a, b, c, d, e] = five(index as u64);
-    [b'R', b' ', p, q, b' ', a, b, c, d, e, b'\n']
+    let mut line = *b"R .. .....\n";
+    line[2..4].copy_from_slice(&digits::<2>(u64::from(number)));
+    line[5..10].copy_from_slice(&digits::<5>(index as u64));
+    line
 }

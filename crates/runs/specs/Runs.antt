@@ -66,7 +66,7 @@ line (Turn e) o = cond e o.turn1 o.turn0
 
 -- A station's lines, each at what the function says.
 abbrev pub lines_to : (Part → Line) → Own → Own
-lines_to f o = record { rec = o.rec; door = f Door; claim = f Claim; turn0 = f (Turn false); turn1 = f (Turn true); arrivals = o.arrivals; taken = o.taken }
+lines_to f o = record o { door = f Door; claim = f Claim; turn0 = f (Turn false); turn1 = f (Turn true) }
 
 abbrev pub same_part : Part → Part → Bool
 same_part Door Door = true
@@ -84,22 +84,14 @@ line_to x v o = lines_to (λ y. cond (same_part x y) v (line y o)) o
 
 -- The record at s.
 abbrev pub stands : Record → Own → Own
-stands s o = record { rec = s; door = o.door; claim = o.claim; turn0 = o.turn0; turn1 = o.turn1; arrivals = o.arrivals; taken = o.taken }
+stands s o = record o { rec = s }
 
 -- By a go: an arrival on the merge is counted, and its pass is yet to be taken.
 abbrev pub goes_to : Record → Own → Own
-goes_to s o = record {
-  rec = s;
-  door = o.door;
-  claim = o.claim;
-  turn0 = o.turn0;
-  turn1 = o.turn1;
-  arrivals = cond (s.place == merge_place) (suc o.arrivals) o.arrivals;
-  taken = cond (s.place == merge_place) false o.taken;
-}
+goes_to s o = record o { rec = s; arrivals = cond (s.place == merge_place) (suc o.arrivals) o.arrivals; taken = cond (s.place == merge_place) false o.taken }
 
 abbrev pub takes : Own → Own
-takes o = record { rec = o.rec; door = o.door; claim = o.claim; turn0 = o.turn0; turn1 = o.turn1; arrivals = o.arrivals; taken = true }
+takes o = record o { taken = true }
 
 -- What a read of the line gives, if a loose one is answered so.
 abbrev pub reading : Line → Bool → Bool

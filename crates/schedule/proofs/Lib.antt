@@ -1,4 +1,3 @@
-pub mod Unknown
 pub mod Told
 pub mod Stages
 pub mod Back

@@ -3,7 +3,7 @@ use Rattle.std.specs.Prelude.{ℕ, ◌+◌, ◌*◌, cond, List, [], ◌∷◌, 
 use Rattle.schedule.specs.declared.event.Event.{Event}
 use Rattle.schedule.specs.declared.discipline.DisciplineKind.{DisciplineKind}
 use Rattle.schedule.specs.declared.refusal.Refusal.{Refusal}
-use Rattle.schedule.specs.declared.refusal.Refusal.TheVariants.{TooLong, NoHeader, UnknownDiscipline, TooManyEvents, EventsCutShort, BadStationCount, UnknownEvent}
+use Rattle.schedule.specs.declared.refusal.Refusal.TheVariants.{TooLong, NoHeader, TooManyEvents, EventsCutShort, BadStationCount, UnknownEvent}
 use Rattle.schedule.specs.Limits.{longest, most_events, most_stations}
 use Rattle.schedule.specs.Letters.{discipline_of}
 use Rattle.schedule.specs.Events.{events_of, first_unknown}
@@ -28,15 +28,15 @@ abbrev pub with_letters : Option ℕ → Plan → Result Plan Refusal
 with_letters None p = Ok p
 with_letters (Some index) p = Err (UnknownEvent index)
 
--- With the discipline of the first byte, n stations and e events.
-abbrev pub with_body : Option DisciplineKind → ℕ → ℕ → List ℕ → Result Plan Refusal
-with_body None n e rest = Err UnknownDiscipline
-with_body (Some d) n e rest =
+-- With what the first byte means, n stations and e events.
+abbrev pub with_body : Result DisciplineKind Refusal → ℕ → ℕ → List ℕ → Result Plan Refusal
+with_body (Err refusal) n e rest = Err refusal
+with_body (Ok d) n e rest =
     cond (nat_lt most_events e) (Err TooManyEvents)
     (cond (nat_lt (length rest) (3 * e)) (Err EventsCutShort)
     (cond (n == 0) (Err BadStationCount)
     (cond (nat_lt most_stations n) (Err BadStationCount)
-    (with_letters (first_unknown (take e rest) 0) (plan_in d n e rest)))))
+    (with_letters (first_unknown (take e rest)) (plan_in d n e rest)))))
 
 -- Four bytes: the discipline's letter, the number of stations, and that of events with the high byte first.
 abbrev pub with_header : List ℕ → Result Plan Refusal

@@ -1,20 +1,22 @@
 -- The letters of a schedule, by their numbers in ASCII.
-use Rattle.std.specs.Prelude.{ℕ, cond, Some, None, Option, ◌==◌}
+use Rattle.std.specs.Prelude.{ℕ, cond, Some, None, Ok, Err, Option, Result, ◌==◌}
 use Rattle.schedule.specs.declared.event.Event.{Event}
 use Rattle.schedule.specs.declared.event.Event.TheVariants.{Start, Go, Stir, Fail, Leave}
 use Rattle.schedule.specs.declared.discipline.DisciplineKind.{DisciplineKind}
 use Rattle.schedule.specs.declared.discipline.DisciplineKind.TheVariants.{FourLine, Plain}
+use Rattle.schedule.specs.declared.refusal.Refusal.{Refusal}
+use Rattle.schedule.specs.declared.refusal.Refusal.TheVariants.{UnknownDiscipline}
 
 -- A and B
 abbrev pub discipline_letter : DisciplineKind → ℕ
 discipline_letter FourLine = 65
 discipline_letter Plain = 66
 
--- The discipline that has the letter.
-abbrev pub discipline_of : ℕ → Option DisciplineKind
+-- The discipline that has the letter, where one does.
+abbrev pub discipline_of : ℕ → Result DisciplineKind Refusal
 discipline_of letter =
-    cond (letter == discipline_letter FourLine) (Some FourLine)
-    (cond (letter == discipline_letter Plain) (Some Plain) None)
+    cond (letter == discipline_letter FourLine) (Ok FourLine)
+    (cond (letter == discipline_letter Plain) (Ok Plain) (Err UnknownDiscipline))
 
 -- S, G, W, F and L
 abbrev pub letter_of : Event → ℕ

@@ -1,7 +1,9 @@
 pub mod Limits
 pub mod Letters
 pub mod Events
+pub mod Left
 pub mod Refusals
 pub mod Decode
 pub mod Encode
 pub mod View
+pub mod Kept

@@ -2,6 +2,8 @@
 ghost use Rattle.std.specs.Prelude.{◌≡◌};
 ghost use Rattle.schedule.specs.Letters.{discipline_of};
 
+use crate::refusal::Refusal;
+
 /// How the stations agree on who holds the merge.
 #[derive(Clone, Copy, PartialEq, Eq, Debug)]
 pub enum DisciplineKind {
@@ -9,15 +11,16 @@ pub enum DisciplineKind {
     Plain,
 }
 
-impl DisciplineKind {
-    /// The discipline of a letter.
-    pub(crate) fn of_letter(letter: u8) -> Option<Self>
-        ensures { result ≡ discipline_of letter }
-    {
+impl TryFrom<u8> for DisciplineKind {
+    type Error = Refusal;
+
+    ghost try_from_gives = { λ letter r. r ≡ discipline_of letter };
+
+    fn try_from(letter: u8) -> Result<Self, Refusal> {
         match letter as char {
-            'A' => Some(DisciplineKind::FourLine),
-            'B' => Some(DisciplineKind::Plain),
-            _ => None,
+            'A' => Ok(DisciplineKind::FourLine),
+            'B' => Ok(DisciplineKind::Plain),
+            _ => Err(Refusal::UnknownDiscipline),
         }
     }
 }

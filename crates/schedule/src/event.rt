@@ -14,6 +14,7 @@ pub enum Event {
 
 impl Event {
     /// The event of a letter and its two operands. Only a go looks at the pick.
+    // No `TryFrom<[u8; 3]>`: the three bytes do not lie together, and an array would not name the two operands.
     pub(crate) fn of_letter(letter: u8, station: u8, pick: u8) -> Option<Self>
         ensures { result ≡ event_of letter station pick }
     {
@@ -32,6 +33,7 @@ impl Event {
         ensures value { result ≡ letter_of self }
         ensures again { event_of result (station_of self) (pick_of self) ≡ Some self }
     {
+        // A match, since variants that hold a station rule discriminants out.
         match self {
             Event::Start { .. } => b'S',
             Event::Go { .. } => b'G',
@@ -46,11 +48,11 @@ impl Event {
         ensures { result ≡ station_of self }
     {
         match self {
-            Event::Start { station } => station,
-            Event::Go { station, .. } => station,
-            Event::Stir { station } => station,
-            Event::Fail { station } => station,
-            Event::Leave { station } => station,
+            Event::Start { station }
+            | Event::Go { station, .. }
+            | Event::Stir { station }
+            | Event::Fail { station }
+            | Event::Leave { station } => station,
         }
     }
 }

@@ -1,13 +1,14 @@
 //! Reading a schedule.
-ghost use Rattle.std.specs.Prelude.{◌≡◌, ◌+◌, ◌≤◌, length, IfOk};
+ghost use Rattle.std.specs.Prelude.{◌≡◌, ◌+◌, ◌≤◌, length, Ok, IfOk};
 ghost use Rattle.schedule.specs.Limits.{longest};
 ghost use Rattle.schedule.specs.Events.{first_unknown};
 ghost use Rattle.schedule.specs.Decode.{decode, with_body};
-ghost use Rattle.schedule.specs.View.{plan, answer, Sound};
+ghost use Rattle.schedule.specs.View.{plan, answer};
 ghost use Rattle.schedule.specs.Encode.{Fits, ReadsBack};
 
 use crate::discipline::DisciplineKind;
 use crate::event::Event;
+use crate::events::Events;
 use crate::refusal::Refusal;
 use crate::view::Schedule;
 
@@ -17,11 +18,10 @@ const MOST_EVENTS: usize = 16_384;
 
 const MOST_STATIONS: u8 = 16;
 
-/// The schedule in `bytes`, or the first refusal that applies. What is accepted keeps within the limits, and every
-/// plan within the limits, written as bytes, is accepted and read as that plan.
+/// The schedule in `bytes`, or the first refusal that applies. What is accepted keeps within the limits, and every plan
+/// within the limits, written as bytes, is accepted and read as that plan.
 pub fn parse(bytes: &[u8]) -> Result<Schedule<'_>, Refusal>
     ensures value { answer result ≡ decode bytes.now }
-    ensures sound { IfOk result Sound }
     ensures fits { IfOk result (λ s. Fits (plan s)) }
     ensures reads_back { ReadsBack bytes.now (answer result) }
 {
@@ -32,34 +32,31 @@ pub fn parse(bytes: &[u8]) -> Result<Schedule<'_>, Refusal>
         return Err(Refusal::NoHeader);
     };
     body(
-        DisciplineKind::of_letter(*letter),
+        DisciplineKind::try_from(*letter)?,
         *stations,
-        256 * usize::from(*hi) + usize::from(*lo),
+        usize::from(u16::from_be_bytes([*hi, *lo])),
         rest,
     )
 }
 
 // What follows the header.
+#[tactic(auto, using(crate::proofs::Told::length_events))]
 fn body(
-    discipline: Option<DisciplineKind>,
+    discipline: DisciplineKind,
     stations: u8,
     events: usize,
     rest: &[u8],
 ) -> Result<Schedule<'_>, Refusal>
-    ensures value { answer result ≡ with_body discipline stations events rest.now }
-    ensures sound { IfOk result Sound }
-    ensures fits { IfOk result (λ s. 4 + length rest.now ≤ longest → Fits (plan s)) }
+    requires { 4 + length rest.now ≤ longest }
+    ensures { answer result ≡ with_body (Ok discipline) stations events rest.now }
 {
-    let Some(discipline) = discipline else {
-        return Err(Refusal::UnknownDiscipline);
-    };
     if events > MOST_EVENTS {
         return Err(Refusal::TooManyEvents);
     }
     if rest.len() < 3 * events {
         return Err(Refusal::EventsCutShort);
     }
-    if stations == 0 || stations > MOST_STATIONS {
+    if !(1..=MOST_STATIONS).contains(&stations) {
         return Err(Refusal::BadStationCount);
     }
     let (letters, behind) = rest.split_at(events);
@@ -70,20 +67,16 @@ fn body(
     Ok(Schedule {
         discipline,
         stations,
-        letters,
-        operands,
+        events: Events { letters, operands },
         noise,
     })
 }
 
-// The index of the first letter that no event has.
+// The index of the first letter that no event has. Inside `body` the proof does not follow what the closure answered.
 fn first_unknown(letters: &[u8]) -> Option<usize>
-    ensures { result ≡ first_unknown letters.now 0 }
+    ensures { result ≡ first_unknown letters.now }
 {
-    for (i, letter) in letters.iter().enumerate() {
-        if Event::of_letter(*letter, 0, 0).is_none() {
-            return Some(i);
-        }
-    }
-    None
+    letters
+        .iter()
+        .position(|letter| Event::of_letter(*letter, 0, 0).is_none())
 }

@@ -1,28 +1,29 @@
 //! A schedule that was read.
-ghost use Rattle.std.specs.Prelude.{◌≡◌, slice_index};
-ghost use Rattle.schedule.specs.View.{plan, len_of, event_at};
+ghost use Rattle.std.specs.Prelude.{◌≡◌, ℕ, ◌+◌, ◌*◌, ◌≤◌, length};
+ghost use Rattle.schedule.specs.Limits.{longest, most_events, most_stations};
+ghost use Rattle.schedule.specs.Left.{left};
 
 use crate::discipline::DisciplineKind;
 use crate::event::Event;
+use crate::events::Events;
 
 /// A schedule. Its events and its noise lie in the bytes that it was read from.
 #[derive(Drop)]
 pub struct Schedule<'a> {
     pub(crate) discipline: DisciplineKind,
     pub(crate) stations: u8,
-    pub(crate) letters: &'a [u8],
-    pub(crate) operands: &'a [u8],
+    pub(crate) events: Events<'a>,
     pub(crate) noise: &'a [u8],
-}
-
-// The byte at an index, or 0 past the end.
-fn byte_at(bytes: &[u8], i: usize) -> u8
-    ensures { result ≡ slice_index bytes.now i }
-{
-    if i < bytes.len() { bytes[i] } else { 0 }
+    ghost some_station: { 1 ≤ stations },
+    ghost few_stations: { stations ≤ most_stations },
+    ghost few_events: { length (left events) ≤ most_events },
+    ghost short: { 4 + 3 * length (left events) + length noise.now ≤ longest },
 }
 
 impl<'a> Schedule<'a> {
+    ghost use Rattle.std.specs.Prelude.{slice_get};
+    ghost use Rattle.schedule.specs.View.{plan};
+
     /// The discipline of the stations.
     pub fn discipline(&self) -> DisciplineKind
         ensures { result ≡ (plan self.now).discipline }
@@ -38,24 +39,30 @@ impl<'a> Schedule<'a> {
     }
 
     /// The number of events.
+    #[tactic(auto, using(crate::proofs::Told::length_events))]
     pub fn len(&self) -> usize
-        ensures { result ≡ len_of self.now }
+        ensures { result ≡ length (plan self.now).events }
     {
-        self.letters.len()
+        let Events { letters, .. } = self.events;
+        letters.len()
     }
 
     /// The event at an index, or none past the last.
+    // By index: of `self.events().nth(i)` a proof does not find which event it is.
+    #[tactic(auto, using(crate::proofs::Told::event_at))]
     pub fn event(&self, i: usize) -> Option<Event>
-        ensures { result ≡ event_at self.now i }
+        ensures { result ≡ slice_get (plan self.now).events i }
     {
-        if i >= self.letters.len() {
-            return None;
-        }
-        Event::of_letter(
-            self.letters[i],
-            byte_at(self.operands, 2 * i),
-            byte_at(self.operands, 2 * i + 1),
-        )
+        let Events { letters, operands } = self.events;
+        let letter = *letters.get(i)?;
+        Event::of_letter(letter, operands[2 * i], operands[2 * i + 1])
+    }
+
+    /// The events, in their order.
+    pub fn events(&self) -> Events<'a>
+        ensures { left result ≡ (plan self.now).events }
+    {
+        self.events
     }
 
     /// The bytes behind the events: the noise of a tape.

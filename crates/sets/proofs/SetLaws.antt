@@ -1,77 +1,79 @@
 -- What each operation on sets does to their members: laws without premises, one number at a time.
-use Rattle.std.proofs.Common.{◌≡◌, ℕ, zero, suc, ◌+◌, ◌-◌, ◌^◌, ◌<◌, Bool, true, false, cond, not, ◌&&◌, ◌||◌, eqb, ltb, ap, ◌∙◌, ap₂, arith, lt-ltb}
-use lib.Bits.{bit_xor, differ}
+use Rattle.std.proofs.Common.{◌≡◌, ℕ, zero, suc, ◌+◌, ◌-◌, ◌%◌, ◌^◌, ◌<◌, ◌≤◌, Bool, true, false, cond, not, ◌&&◌, ◌||◌, eqb, ltb, ap, ◌∙◌, ⊎_elim, arith, lt-ltb, le-ltb}
+use Rattle.std.specs.Int.{bit_at}
+use lib.Bits.{bit_xor}
 use Rattle.std.proofs.lemmas.Bool.Decides.{nat_tests}
-use Rattle.std.proofs.lemmas.Bool.{cond_both}
+use Rattle.std.proofs.lemmas.Bool.{cond_both, cases_lt, eqb-true}
+use Rattle.std.proofs.lemmas.Nat.Bits.{bit_at_xor, bit_at-pow_same, bit_at-pow_other, bit_at_ones, bit_at_ones_above, bit_at-zero, bit_at-lt}
 use Rattle.sets.specs.declared.Set.{Set}
 use Rattle.sets.specs.Sets.{of_bits, has, plus, without, none, first, above, is_none, nowhere}
-use Rattle.sets.proofs.Bits.{bit, bit_is, bit_lt, bit_zero, bit-xor, bit_pow, bit_ones, differ_at}
-
--- Membership is a bit.
-pub has_bit : (s : Set) (k : ℕ) → has s k ≡ cond (ltb k 32) (eqb (bit s.bits k) 1) false
-unfolding has
-has_bit s k = ap (λ x. cond (ltb k 32) (eqb x 1) false) (bit_is s.bits k)
 
 -- Members are below 32.
 pub has_small : (s : Set) (k : ℕ) → has s k ≡ true → k < 32
 unfolding has
 has_small s k e = grind (arith, nat_tests)
 
+-- A bit and a test, exclusively: turned over where the test holds.
+turned : (x : ℕ) (y : Bool) → x < 2 → eqb ((x + cond y 1 0) % 2) 1 ≡ cond y (not (eqb x 1)) (eqb x 1)
+turned x true h = grind (arith, nat_tests)
+turned x false h = grind (arith, nat_tests)
+
+-- A power of two has its one bit.
+bit_pow : (k q : ℕ) → bit_at (2 ^ k) q ≡ cond (eqb q k) 1 0
+bit_pow k q =
+    cond_both (eqb q k) 1 0 (λ x. bit_at (2 ^ k) q ≡ x) (λ e. rw (eqb-true q k e) (bit_at-pow_same k)) (λ e. bit_at-pow_other k q (grind (arith, nat_tests)))
+
+-- One less than a power of two has all bits below it.
+bit_ones : (n q : ℕ) → bit_at (2 ^ n - 1) q ≡ cond (ltb q n) 1 0
+bit_ones n q =
+    ⊎_elim (λ (a : q < n). rw (lt-ltb q n a) (bit_at_ones n q a)) (λ (b : n ≤ q). rw (le-ltb q n b) (bit_at_ones_above n q b)) (cases_lt q n)
+
 -- The bit of k turned over.
-turned : (n k q : ℕ) → has (of_bits (bit_xor n (2 ^ k))) q ≡ cond (ltb q 32) (cond (eqb q k) (not (eqb (bit n q) 1)) (eqb (bit n q) 1)) false
-turned n k q =
-    has_bit (of_bits (bit_xor n (2 ^ k))) q
-    ∙ ap (λ x. cond (ltb q 32) (eqb x 1) false) (bit-xor n (2 ^ k) q ∙ ap (λ x. differ (bit n q) x) (bit_pow k q))
-    ∙ ap (λ x. cond (ltb q 32) x false) (differ_at (bit n q) (eqb q k) (bit_lt n q))
+has_turned : (n k q : ℕ) → has (of_bits (bit_xor n (2 ^ k))) q ≡ cond (ltb q 32) (cond (eqb q k) (not (eqb (bit_at n q) 1)) (eqb (bit_at n q) 1)) false
+unfolding has
+has_turned n k q = ap (λ x. cond (ltb q 32) x false) (ap (λ x. eqb x 1) (bit_at_xor n (2 ^ k) q) ∙ ap (λ x. eqb ((bit_at n q + x) % 2) 1) (bit_pow k q) ∙ turned (bit_at n q) (eqb q k) (bit_at-lt n q))
 
 pub without_at : (k : ℕ) (s : Set) (q : ℕ) → has (without k s) q ≡ has s q && not (eqb q k)
-unfolding without
+unfolding without has
 without_at k s q =
-    let a = has_bit s q in
-    let b = has_bit s k in
-    let t = turned s.bits k q in
+    let t = has_turned s.bits k q in
     cond_both (has s k) (of_bits (bit_xor s.bits (2 ^ k))) s (λ x. has x q ≡ has s q && not (eqb q k))
     (λ e. grind (arith, nat_tests))
     (λ e. grind (arith, nat_tests))
 
 -- A number from 32 on is not taken in.
 pub plus_at : (k : ℕ) (s : Set) (q : ℕ) → has (plus k s) q ≡ has s q || (ltb k 32 && eqb q k)
-unfolding plus
-plus_at k s q =
-    let a = has_bit s q in
-    let b = has_bit s k in
-    let t = turned s.bits k q in
-    grind (arith, nat_tests)
+unfolding plus has
+plus_at k s q = let t = has_turned s.bits k q in grind (arith, nat_tests)
 
 pub none_at : (q : ℕ) → has none q ≡ false
-unfolding none
-none_at q = let a = has_bit (of_bits 0) q in let b = bit_zero q in grind (arith, nat_tests)
+unfolding none has
+none_at q = let b = bit_at-zero q in grind (arith, nat_tests)
 
-first_bit : (n q : ℕ) → bit (first n).bits q ≡ cond (ltb q n && ltb q 32) 1 0
+first_bit : (n q : ℕ) → bit_at (first n).bits q ≡ cond (ltb q n && ltb q 32) 1 0
 unfolding first
 first_bit n q =
-    cond_both (ltb n 32) (of_bits (2 ^ n - 1)) (of_bits 4294967295) (λ x. bit x.bits q ≡ cond (ltb q n && ltb q 32) 1 0)
+    cond_both (ltb n 32) (of_bits (2 ^ n - 1)) (of_bits 4294967295) (λ x. bit_at x.bits q ≡ cond (ltb q n && ltb q 32) 1 0)
     (λ e. let b = bit_ones n q in grind (arith, nat_tests))
     (λ e. let b = bit_ones 32 q in grind (arith, nat_tests))
 
 pub first_at : (n q : ℕ) → has (first n) q ≡ ltb q n && ltb q 32
-first_at n q = let a = has_bit (first n) q in let b = first_bit n q in grind (arith, nat_tests)
+unfolding has
+first_at n q = let b = first_bit n q in grind (arith, nat_tests)
 
 pub above_at : (n p q : ℕ) → has (above n p) q ≡ ltb p q && ltb q n && ltb q 32
-unfolding above none
+unfolding above none has
 above_at n p q =
     let f : ℕ = (first n).bits in
     let g : ℕ = (first (p + 1)).bits in
     cond_both (ltb p n) (of_bits (bit_xor f g)) (of_bits 0) (λ x. has x q ≡ ltb p q && ltb q n && ltb q 32)
     (λ e.
-    let a = has_bit (of_bits (bit_xor f g)) q in
-    let x : Bool = ltb q n && ltb q 32 in
-    let y : Bool = ltb q (p + 1) && ltb q 32 in
-    let b : bit (bit_xor f g) q ≡ differ (cond x 1 0) (cond y 1 0) = bit-xor f g q ∙ ap₂ differ (first_bit n q) (first_bit (p + 1) q) in
-    let d = differ_at (cond x 1 0) y (cond_both x 1 0 (λ z. z < 2) (λ _. omega arith) (λ _. omega arith)) in
-    let c : eqb (bit (bit_xor f g) q) 1 ≡ cond y (not (eqb (cond x 1 0) 1)) (eqb (cond x 1 0) 1) = ap (λ z. eqb z 1) b ∙ d in
+    let x = turned (bit_at f q) (ltb q (p + 1) && ltb q 32) (bit_at-lt f q) in
+    let a = first_bit n q in
+    let b = first_bit (p + 1) q in
+    let c = bit_at_xor f g q in
     grind (arith, nat_tests))
-    (λ e. let a = has_bit (of_bits 0) q in let b = bit_zero q in grind (arith, nat_tests))
+    (λ e. let b = bit_at-zero q in grind (arith, nat_tests))
 
 -- Where a test holds nowhere below n, it fails at each number below n.
 pub nowhere_at : (n : ℕ) (f : ℕ → Bool) (k : ℕ) → nowhere n f ≡ true → k < n → f k ≡ false

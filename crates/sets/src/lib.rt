@@ -1,15 +1,16 @@
-// Sets of numbers below 32.
+//! Sets of numbers below 32.
 #![tactic(auto)]
 
-ghost use Rattle.std.specs.Prelude.{◌≡◌, ℕ, Bool};
-ghost use Rattle.sets.specs.Sets.{has, plus, without, none, first, above, is_none, everywhere};
+ghost use Rattle.std.specs.Prelude.{◌≡◌, ◌^◌, cond, nat_lt, bit_xor};
+ghost use Rattle.sets.specs.Sets.{of_bits, has, plus, without, none, first, above, is_none, everywhere};
 
 /// A set of numbers below 32, one bit for each.
-#[derive(Clone, Copy)]
+#[derive(Clone, Copy, Default, PartialEq, Eq, Debug)]
 pub struct Set {
-    pub(crate) bits: u32,
+    bits: u32,
 }
 
+#[tactic(auto, unfolding(crate::specs::Sets::has, crate::specs::Sets::none, crate::specs::Sets::first, crate::specs::Sets::above, crate::specs::Sets::plus, crate::specs::Sets::without))]
 impl Set {
     /// The set without members.
     pub fn empty() -> Self
@@ -43,16 +44,14 @@ impl Set {
         }
     }
 
+    /// Whether k is a member.
     pub fn contains(self, k: usize) -> bool
         ensures { result ≡ has self k }
     {
-        if k < 32 {
-            (self.bits >> k) % 2 == 1
-        } else {
-            false
-        }
+        k < 32 && (self.bits >> k) % 2 == 1
     }
 
+    /// Whether it has no member.
     pub fn is_empty(self) -> bool
         ensures { result ≡ is_none self }
     {
@@ -63,40 +62,29 @@ impl Set {
     pub fn covers(self, n: usize) -> bool
         ensures { result ≡ everywhere n (has self) }
     {
-        if n < 32 {
-            // The lowest n bits, held to as many ones.
-            let bound = 1 << n;
-            self.bits % bound == bound - 1
-        } else {
-            n == 32 && self.bits == u32::MAX
-        }
+        n <= self.bits.trailing_ones() as usize
     }
 
     /// The set with k, where k is below 32.
     pub fn insert(self, k: usize) -> Self
         ensures { result ≡ plus k self }
     {
-        if self.contains(k) {
-            return self;
-        }
         if k < 32 {
             Set {
-                bits: self.bits ^ (1 << k),
+                bits: self.bits | (1 << k),
             }
         } else {
             self
         }
     }
 
+    /// The set without k.
     pub fn remove(self, k: usize) -> Self
         ensures { result ≡ without k self }
     {
-        if !self.contains(k) {
-            return self;
-        }
         if k < 32 {
             Set {
-                bits: self.bits ^ (1 << k),
+                bits: self.bits & !(1 << k),
             }
         } else {
             self

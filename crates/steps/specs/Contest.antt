@@ -1,5 +1,5 @@
 -- The rows of the inner contest, which both disciplines share.
-use Rattle.std.specs.Prelude.{ℕ, Bool, true, false, cond, Some, None, Option}
+use Rattle.std.specs.Prelude.{ℕ, Bool, true, false, cond, Some, None, Option, ◌==◌}
 use Rattle.steps.specs.declared.record.Record.{Record}
 use Rattle.steps.specs.declared.lines.Part.TheVariants.{Claim}
 use Rattle.steps.specs.declared.lines.Flag.{Flag}
@@ -18,6 +18,17 @@ label AwaitLower = 31
 label PickAbove = 32
 label AwaitAbove = 33
 label Release = 38
+
+-- The place of a number, if it is one of the contest.
+abbrev pub place_of : ℕ → Option Contest
+place_of n =
+    cond (n == 28) (Some RaiseClaim)
+    (cond (n == 29) (Some LookBelow)
+    (cond (n == 30) (Some LowerClaim)
+    (cond (n == 31) (Some AwaitLower)
+    (cond (n == 32) (Some PickAbove)
+    (cond (n == 33) (Some AwaitAbove)
+    (cond (n == 38) (Some Release) None))))))
 
 abbrev pub to : Contest → Record → Record
 to x s = to_number (label x) s

@@ -1,12 +1,13 @@
 -- The four-line discipline as a step table: a door, a claim and two turns for each station.
 use Rattle.std.specs.Prelude.{ℕ, ◌+◌, ◌*◌, ◌/◌, ◌%◌, Bool, true, false, cond, not, Some, None, Option, ◌==◌, nat_lt}
+use Rattle.std.specs.Option.{option_map_or}
 use Rattle.steps.specs.declared.record.Record.{Record}
 use Rattle.steps.specs.declared.lines.Part.{Part}
 use Rattle.steps.specs.declared.lines.Part.TheVariants.{Door, Claim, Turn}
 use Rattle.steps.specs.declared.lines.Flag.{Flag}
 use Rattle.steps.specs.declared.go.Go.{Go}
 use Rattle.steps.specs.declared.go.Go.TheVariants.{Idle as Idles, Waits, MustLeave, Moves, Settles}
-use Rattle.steps.specs.declared.contest.Contest.TheVariants.{RaiseClaim, LookBelow, LowerClaim, AwaitLower, PickAbove, AwaitAbove, Release}
+use Rattle.steps.specs.declared.contest.Contest.TheVariants.{RaiseClaim}
 use Rattle.steps.specs.declared.four_line.FourPlace.{FourPlace}
 use Rattle.steps.specs.declared.four_line.FourPlace.TheVariants.{Idle, OpenDoor, CopyTurns, RaiseTurn, CloseDoor, PickTurn, AwaitTurn, Contest, LowerTurn, PickDoor, AwaitDoor, Merging, Failed, ClearClaim, ClearTurn0, ClearTurn1, RecheckDoor, AwaitRecheckedDoor, RecheckTurn, AwaitRecheckedTurn}
 use Rattle.sets.specs.Sets.{plus, without, none, first}
@@ -36,26 +37,19 @@ label AwaitRecheckedDoor = 44
 label RecheckTurn = 45
 label AwaitRecheckedTurn = 46
 
--- The place of a number; a number that is no place stands for the idle one.
-abbrev pub place_of : ℕ → FourPlace
-place_of n =
+-- The place of a number; a number that is no place stands for the idle one. Arguments look into it only where they say so.
+unfoldable pub view : ℕ → FourPlace
+view n =
     cond (n == 22) OpenDoor
     (cond (n == 23) CopyTurns
     (cond (n == 24) RaiseTurn
     (cond (n == 25) CloseDoor
     (cond (n == 26) PickTurn
     (cond (n == 27) AwaitTurn
-    (cond (n == 28) (Contest RaiseClaim)
-    (cond (n == 29) (Contest LookBelow)
-    (cond (n == 30) (Contest LowerClaim)
-    (cond (n == 31) (Contest AwaitLower)
-    (cond (n == 32) (Contest PickAbove)
-    (cond (n == 33) (Contest AwaitAbove)
     (cond (n == 34) LowerTurn
     (cond (n == 35) PickDoor
     (cond (n == 36) AwaitDoor
     (cond (n == 37) Merging
-    (cond (n == 38) (Contest Release)
     (cond (n == 39) Failed
     (cond (n == 40) ClearClaim
     (cond (n == 41) ClearTurn0
@@ -63,11 +57,8 @@ place_of n =
     (cond (n == 43) RecheckDoor
     (cond (n == 44) AwaitRecheckedDoor
     (cond (n == 45) RecheckTurn
-    (cond (n == 46) AwaitRecheckedTurn Idle))))))))))))))))))))))))
-
--- The same, which arguments look into only where they say so.
-unfoldable pub view : ℕ → FourPlace
-view n = place_of n
+    (cond (n == 46) AwaitRecheckedTurn
+    (option_map_or Contest (contest.place_of n) Idle))))))))))))))))))
 
 abbrev pub to : FourPlace → Record → Record
 to x s = to_number (label x) s

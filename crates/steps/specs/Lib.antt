@@ -4,3 +4,4 @@ pub mod Contest
 pub mod Plain
 pub mod FourLine
 pub mod Answers
+pub mod Back

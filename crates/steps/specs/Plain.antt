@@ -1,12 +1,13 @@
 -- The plain discipline as a step table: one line, the claim, for each station, and nothing but the contest.
 use Rattle.std.specs.Prelude.{ℕ, Bool, false, cond, Some, None, Option, ◌==◌, nat_lt}
+use Rattle.std.specs.Option.{option_map_or}
 use Rattle.steps.specs.declared.record.Record.{Record}
 use Rattle.steps.specs.declared.lines.Part.{Part}
 use Rattle.steps.specs.declared.lines.Part.TheVariants.{Door, Claim, Turn}
 use Rattle.steps.specs.declared.lines.Flag.{Flag}
 use Rattle.steps.specs.declared.go.Go.{Go}
 use Rattle.steps.specs.declared.go.Go.TheVariants.{Idle as Idles, MustLeave, Settles}
-use Rattle.steps.specs.declared.contest.Contest.TheVariants.{RaiseClaim, LookBelow, LowerClaim, AwaitLower, PickAbove, AwaitAbove, Release}
+use Rattle.steps.specs.declared.contest.Contest.TheVariants.{RaiseClaim}
 use Rattle.steps.specs.declared.plain.PlainPlace.{PlainPlace}
 use Rattle.steps.specs.declared.plain.PlainPlace.TheVariants.{Idle, Contest, Merging, Failed}
 use Rattle.sets.specs.Sets.{none}
@@ -20,22 +21,9 @@ label (Contest x) = contest.label x
 label Merging = merge_place
 label Failed = failed_place
 
--- The place of a number; a number that is no place stands for the idle one.
-abbrev pub place_of : ℕ → PlainPlace
-place_of n =
-    cond (n == 28) (Contest RaiseClaim)
-    (cond (n == 29) (Contest LookBelow)
-    (cond (n == 30) (Contest LowerClaim)
-    (cond (n == 31) (Contest AwaitLower)
-    (cond (n == 32) (Contest PickAbove)
-    (cond (n == 33) (Contest AwaitAbove)
-    (cond (n == 37) Merging
-    (cond (n == 38) (Contest Release)
-    (cond (n == 39) Failed Idle))))))))
-
--- The same, which arguments look into only where they say so.
+-- The place of a number; a number that is no place stands for the idle one. Arguments look into it only where they say so.
 unfoldable pub view : ℕ → PlainPlace
-view n = place_of n
+view n = cond (n == 37) Merging (cond (n == 39) Failed (option_map_or Contest (contest.place_of n) Idle))
 
 -- The line that a go reads.
 abbrev pub looks : PlainPlace → Record → ℕ → Option Flag

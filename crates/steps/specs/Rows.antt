@@ -24,24 +24,24 @@ failed_place = 39
 abbrev pub new_record : Record
 new_record = record { place = idle_place; side = false; kept = 0; left = none; copy = none }
 
-abbrev pub failed : Record
-failed = record { place = failed_place; side = false; kept = 0; left = none; copy = none }
-
 -- A record but for one field.
 abbrev pub to_number : ℕ → Record → Record
-to_number n s = record { place = n; side = s.side; kept = s.kept; left = s.left; copy = s.copy }
+to_number n s = record s { place = n }
+
+abbrev pub failed : Record
+failed = to_number failed_place new_record
 
 abbrev pub keeping : ℕ → Record → Record
-keeping k s = record { place = s.place; side = s.side; kept = k; left = s.left; copy = s.copy }
+keeping k s = record s { kept = k }
 
 abbrev pub leaving : Set → Record → Record
-leaving l s = record { place = s.place; side = s.side; kept = s.kept; left = l; copy = s.copy }
+leaving l s = record s { left = l }
 
 abbrev pub copying : Set → Record → Record
-copying l s = record { place = s.place; side = s.side; kept = s.kept; left = s.left; copy = l }
+copying l s = record s { copy = l }
 
 abbrev pub onto : Bool → Record → Record
-onto e s = record { place = s.place; side = e; kept = s.kept; left = s.left; copy = s.copy }
+onto e s = record s { side = e }
 
 -- A line by its name.
 abbrev pub flag : ℕ → Part → Flag

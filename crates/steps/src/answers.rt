@@ -1,82 +1,92 @@
 //! What a call on a junction is answered.
-ghost use Rattle.std.specs.Prelude.{◌≡◌};
-ghost use Rattle.steps.specs.Answers.{outcome_number, refusal_number, answer_number};
+ghost use Rattle.std.specs.Prelude.{Some};
+ghost use Rattle.steps.specs.Answers.{outcome_number, refusal_number, outcome_text, refusal_text};
 
-/// How an accepted call went.
+use numbers::Numbered;
+use std::error::Error;
+use std::fmt;
+
+/// How an accepted call went, with its number in a report.
 #[derive(Clone, Copy, PartialEq, Eq, Debug)]
 pub enum Outcome {
     /// It was done.
-    Accepted,
+    Accepted = 0,
     /// The line read is high, and the station stays.
-    Waits,
+    Waits = 50,
     /// The station is not started.
-    Idle,
+    Idle = 51,
 }
 
-/// Why a call is refused.
+/// Why a call is refused, with its number in a report.
 #[derive(Clone, Copy, PartialEq, Eq, Debug)]
 pub enum Refusal {
     /// The junction has no station of that number.
-    NoStation,
+    NoStation = 3,
     /// A start of a station that is not idle.
-    NotIdle,
+    NotIdle = 4,
     /// A go whose pick is not in the set.
-    WrongPick,
+    WrongPick = 5,
     /// A go of a station that is on the merge.
-    MustLeave,
+    MustLeave = 6,
     /// A stir of a station whose next go settles no line.
-    NothingToSettle,
+    NothingToSettle = 7,
     /// A fail of a station that has failed.
-    HasFailed,
+    HasFailed = 8,
     /// A take where the station is not on the merge, or its pass was taken.
-    NoPass,
+    NoPass = 9,
     /// A leave with a pass of another name, or one that is not current.
-    NotCurrent,
+    NotCurrent = 10,
     /// A void of a pass of another name, or one that is current.
-    StillCurrent,
+    StillCurrent = 11,
     /// The limit of calls is reached.
-    Limit,
+    Limit = 12,
 }
 
-impl Outcome {
-    /// The number of the outcome in a report.
-    pub fn number(self) -> u8
-        ensures { result ≡ outcome_number self }
-    {
-        match self {
-            Outcome::Accepted => 0,
-            Outcome::Waits => 50,
-            Outcome::Idle => 51,
-        }
+impl Numbered for Outcome {
+    ghost numbered = { outcome_number };
+
+    fn number(self) -> u8 {
+        self as u8
     }
 }
 
-impl Refusal {
-    /// The number of the refusal.
-    pub fn number(self) -> u8
-        ensures { result ≡ refusal_number self }
-    {
-        match self {
-            Refusal::NoStation => 3,
-            Refusal::NotIdle => 4,
-            Refusal::WrongPick => 5,
-            Refusal::MustLeave => 6,
-            Refusal::NothingToSettle => 7,
-            Refusal::HasFailed => 8,
-            Refusal::NoPass => 9,
-            Refusal::NotCurrent => 10,
-            Refusal::StillCurrent => 11,
-            Refusal::Limit => 12,
-        }
+impl Numbered for Refusal {
+    ghost numbered = { refusal_number };
+
+    fn number(self) -> u8 {
+        self as u8
     }
 }
 
-/// The number of an answer.
-pub fn answer_number(answer: Result<Outcome, Refusal>) -> u8
-    ensures { result ≡ answer_number answer }
-{
-    match answer {
-        Ok(outcome) => outcome.number(),
-        Err(refusal) => refusal.number(),
+impl fmt::Display for Outcome {
+    ghost output = { λ outcome. Some (outcome_text outcome) };
+
+    fn fmt<W: fmt::Write>(&self, f: &mut fmt::Formatter<W>) -> fmt::Result {
+        f.write_str(match self {
+            Outcome::Accepted => "accepted",
+            Outcome::Waits => "waits",
+            Outcome::Idle => "idle",
+        })
     }
 }
+
+impl fmt::Display for Refusal {
+    ghost output = { λ refusal. Some (refusal_text refusal) };
+
+    fn fmt<W: fmt::Write>(&self, f: &mut fmt::Formatter<W>) -> fmt::Result {
+        f.write_str(match self {
+            Refusal::NoStation => "no station of that number",
+            Refusal::NotIdle => "the station is not idle",
+            Refusal::WrongPick => "the pick is not in the set",
+            Refusal::MustLeave => "the station is on the merge",
+            Refusal::NothingToSettle => "the next go settles no line",
+            Refusal::HasFailed => "the station has failed",
+            Refusal::NoPass => "the station has no pass to take",
+            Refusal::NotCurrent => "the pass is not current",
+            Refusal::StillCurrent => "the pass is still current",
+            Refusal::Limit => "the limit of calls is reached",
+        })
+    }
+}
+
+impl Error for Refusal {}

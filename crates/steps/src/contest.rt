@@ -1,33 +1,33 @@
 //! The inner contest, which both disciplines share: a station claims the merge, gives way to those below it and
 //! waits for those above it (the one-line algorithm of Burns and Lamport).
 ghost use Rattle.std.specs.Prelude.{◌≡◌, Bool};
-ghost use Rattle.steps.specs.Contest.{label, looks, goes};
-ghost use Rattle.steps.specs.Rows.{flag, picked_look};
+ghost use Rattle.steps.specs.Contest.{label, place_of, looks, goes};
 
 use crate::go::Go;
 use crate::lines::{Flag, Part};
 use crate::places::IDLE;
 use crate::record::Record;
-use crate::size::Size;
+use crate::step::Step;
 use sets::Set;
 
-/// The places of the contest.
-#[derive(Clone, Copy)]
+/// The places of the contest, with their numbers.
+// A go is a match over places, each row with its guards, as the rules have it; so rows that differ in a place stand side by side.
+#[derive(Clone, Copy, PartialEq, Eq, Debug)]
 pub enum Contest {
-    /// 28: the claim is raised.
-    RaiseClaim,
-    /// 29: the stations below are looked at; one that claims has the way.
-    LookBelow,
-    /// 30: the claim is lowered, to give way.
-    LowerClaim,
-    /// 31: until the station that was given way claims no more.
-    AwaitLower,
-    /// 32: the stations above are gone through.
-    PickAbove,
-    /// 33: until the station above claims no more.
-    AwaitAbove,
-    /// 38: the claim is lowered after the merge.
-    Release,
+    /// The claim is raised.
+    RaiseClaim = 28,
+    /// The stations below are looked at; one that claims has the way.
+    LookBelow = 29,
+    /// The claim is lowered, to give way.
+    LowerClaim = 30,
+    /// Until the station that was given way claims no more.
+    AwaitLower = 31,
+    /// The stations above are gone through.
+    PickAbove = 32,
+    /// Until the station above claims no more.
+    AwaitAbove = 33,
+    /// The claim is lowered after the merge.
+    Release = 38,
 }
 
 impl Contest {
@@ -35,23 +35,36 @@ impl Contest {
     pub fn label(self) -> u8
         ensures { result ≡ label self }
     {
-        match self {
-            Contest::RaiseClaim => 28,
-            Contest::LookBelow => 29,
-            Contest::LowerClaim => 30,
-            Contest::AwaitLower => 31,
-            Contest::PickAbove => 32,
-            Contest::AwaitAbove => 33,
-            Contest::Release => 38,
-        }
+        self as u8
+    }
+
+    /// The place of a number, if it is one of the contest.
+    // No `TryFrom`: both callers go on with the idle place, and an error type would be read by nobody.
+    pub fn at(number: u8) -> Option<Self>
+        ensures { result ≡ place_of number }
+    {
+        Some(match number {
+            28 => Contest::RaiseClaim,
+            29 => Contest::LookBelow,
+            30 => Contest::LowerClaim,
+            31 => Contest::AwaitLower,
+            32 => Contest::PickAbove,
+            33 => Contest::AwaitAbove,
+            38 => Contest::Release,
+            _ => return None,
+        })
     }
 
     /// The line that a go reads.
-    pub fn look(self, s: Record, pick: usize) -> Option<Flag>
-        ensures { result ≡ looks self s pick }
+    pub fn look(self, step: Step) -> Option<Flag>
+        ensures { result ≡ looks self step.rec step.pick }
     {
+        let Step { rec: s, pick, .. } = step;
         match self {
-            Contest::LookBelow => picked(s.left, pick, Part::Claim),
+            Contest::LookBelow => s.left.contains(pick).then_some(Flag {
+                station: pick,
+                part: Part::Claim,
+            }),
             Contest::AwaitLower | Contest::AwaitAbove => Some(Flag {
                 station: s.kept,
                 part: Part::Claim,
@@ -60,10 +73,16 @@ impl Contest {
         }
     }
 
-    /// What a go does; `won` is the place of a station that has won the contest.
-    pub fn go(self, won: u8, size: Size, p: usize, s: Record, pick: usize, high: bool) -> Go
-        ensures { result ≡ goes self won size.stations p s pick high }
+    /// What a go does; `won` is the place of a station that has won the contest, as the number that a record keeps.
+    pub fn go(self, won: u8, step: Step, high: bool) -> Go
+        ensures { result ≡ goes self won step.size.stations step.station step.rec step.pick high }
     {
+        let Step {
+            size,
+            station: p,
+            rec: s,
+            pick,
+        } = step;
         match self {
             Contest::RaiseClaim => Go::Settles(
                 Part::Claim,
@@ -113,19 +132,5 @@ impl Contest {
             }),
             Contest::Release => Go::Settles(Part::Claim, false, s.to(IDLE)),
         }
-    }
-}
-
-// The line of the station that was picked, where it is a member.
-pub(crate) fn picked(left: Set, pick: usize, part: Part) -> Option<Flag>
-    ensures { result ≡ picked_look left pick (flag pick part) }
-{
-    if left.contains(pick) {
-        Some(Flag {
-            station: pick,
-            part,
-        })
-    } else {
-        None
     }
 }

@@ -1,17 +1,19 @@
 //! The rows of the four-line discipline: a door, a claim and two turns for each station. First come, first served.
 ghost use Rattle.std.specs.Prelude.{◌≡◌, ℕ, Bool};
-ghost use Rattle.steps.specs.FourLine.{label, view, place_of, turn, looks, goes};
+ghost use Rattle.steps.specs.FourLine.{label, view, turn, looks, goes};
+ghost use Rattle.steps.specs.Back.{four_back};
 
 use crate::contest::Contest;
 use crate::go::Go;
 use crate::lines::{Flag, Part};
+use crate::place::Place;
 use crate::places::{FAILED, IDLE, MERGING};
 use crate::record::Record;
-use crate::size::Size;
+use crate::step::Step;
 use sets::Set;
 
 /// The places of the four-line discipline.
-#[derive(Clone, Copy)]
+#[derive(Clone, Copy, PartialEq, Eq, Debug)]
 pub enum FourPlace {
     /// 21: not started.
     Idle,
@@ -55,11 +57,19 @@ pub enum FourPlace {
     AwaitRecheckedTurn,
 }
 
-impl FourPlace {
-    /// The number of the place.
-    pub fn label(self) -> u8
-        ensures { result ≡ label self }
-    {
+impl Place for FourPlace {
+    ghost numbered = { label };
+
+    ghost viewed = { view };
+
+    ghost reads = { λ x N p s k. looks x s k };
+
+    ghost does = { goes };
+
+    ghost back = { four_back };
+
+    // By hand: a case holds the contest's place, so the enum cannot give each case its number.
+    fn label(self) -> u8 {
         match self {
             FourPlace::Idle => IDLE,
             FourPlace::OpenDoor => 22,
@@ -68,7 +78,7 @@ impl FourPlace {
             FourPlace::CloseDoor => 25,
             FourPlace::PickTurn => 26,
             FourPlace::AwaitTurn => 27,
-            FourPlace::Contest(step) => step.label(),
+            FourPlace::Contest(contest) => contest.label(),
             FourPlace::LowerTurn => 34,
             FourPlace::PickDoor => 35,
             FourPlace::AwaitDoor => 36,
@@ -84,21 +94,37 @@ impl FourPlace {
         }
     }
 
-    /// The place of a number.
-    pub fn at(number: u8) -> Self
-        ensures { result ≡ view number }
-    {
-        place_at(number)
+    #[tactic(auto, unfolding(crate::specs::FourLine::view))]
+    fn at(number: u8) -> Self {
+        match number {
+            22 => FourPlace::OpenDoor,
+            23 => FourPlace::CopyTurns,
+            24 => FourPlace::RaiseTurn,
+            25 => FourPlace::CloseDoor,
+            26 => FourPlace::PickTurn,
+            27 => FourPlace::AwaitTurn,
+            34 => FourPlace::LowerTurn,
+            35 => FourPlace::PickDoor,
+            36 => FourPlace::AwaitDoor,
+            37 => FourPlace::Merging,
+            39 => FourPlace::Failed,
+            40 => FourPlace::ClearClaim,
+            41 => FourPlace::ClearTurn0,
+            42 => FourPlace::ClearTurn1,
+            43 => FourPlace::RecheckDoor,
+            44 => FourPlace::AwaitRecheckedDoor,
+            45 => FourPlace::RecheckTurn,
+            46 => FourPlace::AwaitRecheckedTurn,
+            _ => Contest::at(number).map_or(FourPlace::Idle, FourPlace::Contest),
+        }
     }
 
-    /// The line that a go reads.
-    pub fn look(self, s: Record, pick: usize) -> Option<Flag>
-        ensures { result ≡ looks self s pick }
-    {
+    fn look(self, step: Step) -> Option<Flag> {
+        let Step { rec: s, pick, .. } = step;
         match self {
-            FourPlace::CopyTurns if s.left.contains(pick) => Some(turn(pick)),
+            FourPlace::CopyTurns => s.left.contains(pick).then_some(turn(pick)),
             FourPlace::AwaitTurn | FourPlace::AwaitRecheckedTurn => Some(turn(s.kept)),
-            FourPlace::Contest(step) => step.look(s, pick),
+            FourPlace::Contest(contest) => contest.look(step),
             FourPlace::AwaitDoor | FourPlace::AwaitRecheckedDoor => Some(Flag {
                 station: s.kept,
                 part: Part::Door,
@@ -107,10 +133,14 @@ impl FourPlace {
         }
     }
 
-    /// What a go does: of station p, with this record, pick and reading.
-    pub fn go(self, size: Size, p: usize, s: Record, pick: usize, high: bool) -> Go
-        ensures { result ≡ goes self size.stations p s pick high }
-    {
+    // A match over places, each row with its guards, as the rules have it; so rows that differ in a place stand side by side.
+    fn go(self, step: Step, high: bool) -> Go {
+        let Step {
+            size,
+            rec: s,
+            pick,
+            ..
+        } = step;
         match self {
             FourPlace::Idle => Go::Idle,
             FourPlace::OpenDoor => {
@@ -152,9 +182,7 @@ impl FourPlace {
                 copy: s.copy.remove(s.kept),
                 ..s
             }),
-            FourPlace::Contest(step) => {
-                step.go(FourPlace::LowerTurn.label(), size, p, s, pick, high)
-            }
+            FourPlace::Contest(contest) => contest.go(FourPlace::LowerTurn.label(), step, high),
             FourPlace::LowerTurn => Go::Settles(
                 Part::Turn(s.side),
                 false,
@@ -234,52 +262,12 @@ impl FourPlace {
 }
 
 // The line of turn number k = 2q + e: of station q, side e.
+#[tactic(auto, unfolding(crate::specs::FourLine::odd))]
 fn turn(k: usize) -> Flag
     ensures { result ≡ turn k }
 {
     Flag {
         station: k / 2,
         part: Part::Turn(k % 2 == 1),
-    }
-}
-
-// The same as `find_place`, by the name that proofs keep shut.
-fn place_at(number: u8) -> FourPlace
-    ensures { result ≡ view number }
-{
-    find_place(number)
-}
-
-// A number that is no place stands for the idle one.
-fn find_place(number: u8) -> FourPlace
-    ensures { result ≡ place_of number }
-{
-    match number {
-        22 => FourPlace::OpenDoor,
-        23 => FourPlace::CopyTurns,
-        24 => FourPlace::RaiseTurn,
-        25 => FourPlace::CloseDoor,
-        26 => FourPlace::PickTurn,
-        27 => FourPlace::AwaitTurn,
-        28 => FourPlace::Contest(Contest::RaiseClaim),
-        29 => FourPlace::Contest(Contest::LookBelow),
-        30 => FourPlace::Contest(Contest::LowerClaim),
-        31 => FourPlace::Contest(Contest::AwaitLower),
-        32 => FourPlace::Contest(Contest::PickAbove),
-        33 => FourPlace::Contest(Contest::AwaitAbove),
-        34 => FourPlace::LowerTurn,
-        35 => FourPlace::PickDoor,
-        36 => FourPlace::AwaitDoor,
-        37 => FourPlace::Merging,
-        38 => FourPlace::Contest(Contest::Release),
-        39 => FourPlace::Failed,
-        40 => FourPlace::ClearClaim,
-        41 => FourPlace::ClearTurn0,
-        42 => FourPlace::ClearTurn1,
-        43 => FourPlace::RecheckDoor,
-        44 => FourPlace::AwaitRecheckedDoor,
-        45 => FourPlace::RecheckTurn,
-        46 => FourPlace::AwaitRecheckedTurn,
-        _ => FourPlace::Idle,
     }
 }

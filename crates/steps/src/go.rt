@@ -3,7 +3,7 @@ use crate::lines::Part;
 use crate::record::Record;
 
 /// What a go does.
-#[derive(Clone, Copy)]
+#[derive(Clone, Copy, PartialEq, Eq, Debug)]
 pub enum Go {
     /// The station is not started.
     Idle,

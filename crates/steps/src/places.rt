@@ -1,4 +1,4 @@
-//! The places that every discipline has. Their numbers stand in the definitions of the rows, too.
+//! The places that every discipline has, as numbers, since a record keeps its place as one. They stand in the definitions of the rows, too.
 
 /// Not started.
 pub const IDLE: u8 = 21;

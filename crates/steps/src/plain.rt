@@ -1,16 +1,17 @@
 //! The rows of the plain discipline: one line, the claim, for each station, and nothing but the contest.
 ghost use Rattle.std.specs.Prelude.{◌≡◌, ℕ, Bool};
-ghost use Rattle.steps.specs.Plain.{label, view, place_of, looks, goes};
+ghost use Rattle.steps.specs.Plain.{label, view, looks, goes};
+ghost use Rattle.steps.specs.Back.{plain_back};
 
 use crate::contest::Contest;
 use crate::go::Go;
 use crate::lines::{Flag, Part};
+use crate::place::Place;
 use crate::places::{FAILED, IDLE, MERGING};
-use crate::record::Record;
-use crate::size::Size;
+use crate::step::Step;
 
 /// The places of the plain discipline.
-#[derive(Clone, Copy)]
+#[derive(Clone, Copy, PartialEq, Eq, Debug)]
 pub enum PlainPlace {
     /// 21: not started.
     Idle,
@@ -22,70 +23,49 @@ pub enum PlainPlace {
     Failed,
 }
 
-impl PlainPlace {
-    /// The number of the place.
-    pub fn label(self) -> u8
-        ensures { result ≡ label self }
-    {
+impl Place for PlainPlace {
+    ghost numbered = { label };
+
+    ghost viewed = { view };
+
+    ghost reads = { λ x N p s k. looks x s k };
+
+    ghost does = { goes };
+
+    ghost back = { plain_back };
+
+    // By hand: a case holds the contest's place, so the enum cannot give each case its number.
+    fn label(self) -> u8 {
         match self {
             PlainPlace::Idle => IDLE,
-            PlainPlace::Contest(step) => step.label(),
+            PlainPlace::Contest(contest) => contest.label(),
             PlainPlace::Merging => MERGING,
             PlainPlace::Failed => FAILED,
         }
     }
 
-    /// The place of a number.
-    pub fn at(number: u8) -> Self
-        ensures { result ≡ view number }
-    {
-        place_at(number)
+    #[tactic(auto, unfolding(crate::specs::Plain::view))]
+    fn at(number: u8) -> Self {
+        match number {
+            37 => PlainPlace::Merging,
+            39 => PlainPlace::Failed,
+            _ => Contest::at(number).map_or(PlainPlace::Idle, PlainPlace::Contest),
+        }
     }
 
-    /// The line that a go reads.
-    pub fn look(self, s: Record, pick: usize) -> Option<Flag>
-        ensures { result ≡ looks self s pick }
-    {
+    fn look(self, step: Step) -> Option<Flag> {
         match self {
-            PlainPlace::Contest(step) => step.look(s, pick),
+            PlainPlace::Contest(contest) => contest.look(step),
             _ => None,
         }
     }
 
-    /// What a go does: of station p, with this record, pick and reading.
-    pub fn go(self, size: Size, p: usize, s: Record, pick: usize, high: bool) -> Go
-        ensures { result ≡ goes self size.stations p s pick high }
-    {
+    fn go(self, step: Step, high: bool) -> Go {
         match self {
             PlainPlace::Idle => Go::Idle,
-            PlainPlace::Contest(step) => step.go(MERGING, size, p, s, pick, high),
+            PlainPlace::Contest(contest) => contest.go(MERGING, step, high),
             PlainPlace::Merging => Go::MustLeave,
-            PlainPlace::Failed => Go::Settles(Part::Claim, false, s.to(IDLE)),
+            PlainPlace::Failed => Go::Settles(Part::Claim, false, step.rec.to(IDLE)),
         }
-    }
-}
-
-// The same as `find_place`, by the name that proofs keep shut.
-fn place_at(number: u8) -> PlainPlace
-    ensures { result ≡ view number }
-{
-    find_place(number)
-}
-
-// A number that is no place stands for the idle one.
-fn find_place(number: u8) -> PlainPlace
-    ensures { result ≡ place_of number }
-{
-    match number {
-        28 => PlainPlace::Contest(Contest::RaiseClaim),
-        29 => PlainPlace::Contest(Contest::LookBelow),
-        30 => PlainPlace::Contest(Contest::LowerClaim),
-        31 => PlainPlace::Contest(Contest::AwaitLower),
-        32 => PlainPlace::Contest(Contest::PickAbove),
-        33 => PlainPlace::Contest(Contest::AwaitAbove),
-        37 => PlainPlace::Merging,
-        38 => PlainPlace::Contest(Contest::Release),
-        39 => PlainPlace::Failed,
-        _ => PlainPlace::Idle,
     }
 }

@@ -6,11 +6,11 @@ use crate::places::{FAILED, IDLE};
 use sets::Set;
 
 /// A station's record: its private variables.
-#[derive(Clone, Copy)]
+#[derive(Clone, Copy, PartialEq, Eq, Debug)]
 pub struct Record {
-    /// Where the station stands (the program label), as a plain number.
+    /// Where the station stands (the program label), as a plain number: the rules say that a record keeps the number.
     pub place: u8,
-    /// Which of its two turn lines the station uses: `false` is side 0, `true` is side 1.
+    /// Which of its two turn lines the station uses: `false` is side 0, `true` is side 1 (a bit, as in `Part::Turn`).
     pub side: bool,
     /// The station or turn number that it waits for, or gave way to.
     pub kept: usize,
@@ -22,6 +22,7 @@ pub struct Record {
 
 impl Record {
     /// The record of a station that was never started.
+    // No `Default`: a derived one would stand at 0, and one by hand is this function in more lines.
     pub fn new() -> Self
         ensures { result ≡ new_record }
     {
@@ -38,13 +39,7 @@ impl Record {
     pub fn failed() -> Self
         ensures { result ≡ failed }
     {
-        Record {
-            place: FAILED,
-            side: false,
-            kept: 0,
-            left: Set::empty(),
-            copy: Set::empty(),
-        }
+        Record::new().to(FAILED)
     }
 
     /// The same record at another place.

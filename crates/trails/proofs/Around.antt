@@ -1,13 +1,22 @@
 -- What a put makes of the slots read backward, and where the entry of an age stands.
-use Rattle.std.proofs.Common.{◌≡◌, ℕ, zero, suc, ◌+◌, ◌-◌, ◌<◌, ◌≤◌, min, ◌⊎◌, List, [], ◌∷◌, ◌++◌, reverse, length, get_or, take, drop, set, Some, None, sym, refl, ap, ◌∙◌, inl, inr, ⊎_elim, not-suc-le-zero, arith, le-ltb, lt-ltb}
+use Rattle.std.proofs.Common.{◌≡◌, ℕ, zero, suc, ◌+◌, ◌-◌, ◌%◌, ◌<◌, ◌≤◌, min, ◌⊎◌, List, [], ◌∷◌, ◌++◌, reverse, length, get_or, take, drop, set, Some, None, sym, refl, ap, ◌∙◌, inl, inr, ⊎_elim, not-suc-le-zero, arith, le-ltb, lt-ltb, mod-eq_of_lt}
+use Rattle.std.proofs.Math.Nat.{mod_self}
 use Rattle.std.proofs.lemmas.Bool.{cases_lt}
-use Rattle.std.proofs.lemmas.List.{length-take, length-drop, length-append, length-reverse, length-set, take_more_set, drop-set-lt, drop_more, reverse-append, append_assoc, take_at, take-take, take_all, drop_all, append-nil, get_or-reverse, get_or_append_left, get_or-append_right, get_or-take, get_or-drop}
+use Rattle.std.proofs.lemmas.Grind.{common_steps}
+use Rattle.std.proofs.lemmas.List.{length-take, length-drop, length-append, length-reverse, length-set, take_more_set, drop-set-lt, drop_more, reverse-append, append_assoc, take_at, get_or-reverse, get_or_append_left, get_or-append_right, get_or-take, get_or-drop}
 use Rattle.trails.specs.Held.{most_puts, put_onto, aged, slot_behind, around, newest}
 use Rattle.trails.specs.Meaning.{held_of}
 
+-- The next slot, counted round.
+wrapped : (next n : ℕ) → next < n → (next + 1) % n ≡ slot_behind next n
+wrapped next n h =
+    ⊎_elim (λ (a : next + 1 < n). rw (lt-ltb (next + 1) n a) (mod-eq_of_lt a))
+    (λ (b : n ≤ next + 1). let e : next + 1 ≡ n = omega arith in rw (le-ltb (next + 1) n b, e) (mod_self n))
+    (cases_lt (next + 1) n)
+
 module _ {X : Type 0} where
   pub length_around : (s : List X) (next : ℕ) → next ≤ length s → length (around s next) ≡ length s
-  length_around s next h = simp (length-append, length-reverse, length-take, length-drop) (omega arith)
+  length_around s next h = grind (arith, common_steps)
 
   -- one more written, the next slot being the one behind it
   pub around_put : (s : List X) (next : ℕ) (x : X) → next < length s → around (set s next x) (next + 1) ≡ x ∷ take (length s - 1) (around s next)
@@ -27,24 +36,10 @@ module _ {X : Type 0} where
 
   -- past the last slot comes the first
   pub around_full : (s : List X) (n : ℕ) → n ≡ length s → around s 0 ≡ around s n
-  around_full s n e =
-      let a : take n s ≡ s = take_all n s (omega arith) in
-      let b : drop n s ≡ [] = drop_all n s (omega arith) in
-      sym (append-nil (reverse s)) ∙ (cc)
-
-  take_min : (m h : ℕ) (l : List X) → take m (take h l) ≡ take (min m h) l
-  take_min m h l =
-      ⊎_elim (λ (a : m < h). let e : min m h ≡ m = omega arith in rw e (take-take m h l (omega arith)))
-      (λ (b : h ≤ m). let e : min m h ≡ h = omega arith in rw e (take_all m (take h l) (simp length-take (omega arith))))
-      (cases_lt m h)
+  around_full s n e = grind (arith, common_steps)
 
   take_both : (n m h : ℕ) (l : List X) (x : X) → n ≡ suc m → take (min n (h + 1)) (x ∷ take m l) ≡ take n (x ∷ take h l)
-  take_both n m h l x s =
-      let e : min n (h + 1) ≡ suc (min h m) = omega arith in
-      let f : min m h ≡ min h m = omega arith in
-      let a : take (min h m) (take m l) ≡ take (min h m) l = take-take (min h m) m l (omega arith) in
-      let b : take m (take h l) ≡ take (min h m) l = rw (← f) (take_min m h l) in
-      rw (e, s) (ap (λ (r : List X). x ∷ r) (a ∙ sym b))
+  take_both n m h l x s = grind (arith, common_steps)
 
   around_behind : (s : List X) (next : ℕ) (x : X) → next < length s → around (set s next x) (slot_behind next (length s)) ≡ x ∷ take (length s - 1) (around s next)
   around_behind s next x h =
@@ -56,17 +51,11 @@ module _ {X : Type 0} where
   newest_put s next used x h =
       rw (around_behind s next x h) (take_both (length s) (length s - 1) used (around s next) x (omega arith))
 
-  -- what a put makes of a trail over slots, and over none
-  pub held_put : (s : List X) (next used count next' used' count' : ℕ) (x : X) → next < length s → next' ≡ slot_behind next (length s) → used' ≡ min (length s) (used + 1) → count' ≡ min (count + 1) most_puts
-      → held_of (set s next x) next' used' count' ≡ put_onto (held_of s next used count) x
+  -- What a put makes of a trail over slots.
+  pub held_put : (s : List X) (next used count used' count' : ℕ) (x : X) → next < length s → used' ≡ min (length s) (used + 1) → count' ≡ min (count + 1) most_puts
+      → held_of (set s next x) ((next + 1) % length s) used' count' ≡ put_onto (held_of s next used count) x
   unfolding put_onto
-  held_put s next used count next' used' count' x h n u c = rw (n, u, c) (λ i. record { entries = newest_put s next used x h i; puts = min (count + 1) most_puts; memory = set s next x; place = slot_behind next (length s) })
-
-  pub held_put_none : (s : List X) (next used count count' : ℕ) (x : X) → length s ≡ 0 → next ≡ 0 → used ≡ 0 → count' ≡ min (count + 1) most_puts
-      → held_of s next used count' ≡ put_onto (held_of s next used count) x
-  unfolding put_onto
-  held_put_none [] next used count count' x h n u c = rw (n, u, c)
-  held_put_none (y ∷ s) next used count count' x h n u c = absurd (omega arith)
+  held_put s next used count used' count' x h u c = rw (wrapped next (length s) h, u, c) (λ i. record { entries = newest_put s next used x h i; puts = min (count + 1) most_puts; memory = set s next x; place = slot_behind next (length s) })
 
   pub aged_none : (xs : List X) (k : ℕ) → length xs ≤ k → aged xs k ≡ None
   aged_none [] k h = refl

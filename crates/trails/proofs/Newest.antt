@@ -1,18 +1,17 @@
 -- What many puts make of a trail.
-use Rattle.std.proofs.Common.{◌≡◌, ℕ, zero, suc, ◌+◌, ◌-◌, ◌<◌, ◌≤◌, min, List, [], ◌∷◌, ◌++◌, reverse, length, take, set, sym, refl, ap, ◌∙◌, ⊎_elim, zero-add, arith, le-ltb, lt-ltb}
-use Rattle.std.proofs.lemmas.Bool.{cases_lt}
-use Rattle.std.proofs.lemmas.List.{reverse-append, append_assoc, take-take, append-nil, length-set}
+use Rattle.std.proofs.Common.{◌≡◌, ℕ, zero, suc, ◌+◌, ◌-◌, ◌≤◌, min, List, [], ◌∷◌, ◌++◌, reverse, length, take, set, sym, refl, ap, ◌∙◌, zero-add, arith}
+use Rattle.std.proofs.lemmas.List.{reverse-append, append_assoc, append-nil, length-set}
+use Rattle.std.proofs.lemmas.Bool.Decides.{nat_tests}
+use Rattle.std.proofs.lemmas.Grind.{common_steps}
 use Rattle.trails.proofs.Around.{newest_put}
 use Rattle.trails.specs.Held.{newest, slot_behind, Held, most_puts, room, none_put, put_onto, all_put, HoldsNewest}
 
 module _ {X : Type 0} where
   take_none : (n : ℕ) → take {A = X} n [] ≡ []
-  take_none zero = refl
-  take_none (suc n) = refl
+  take_none n = grind (arith, common_steps)
 
   take_cons : (n : ℕ) (x : X) (es : List X) → take n (x ∷ take n es) ≡ take n (x ∷ es)
-  take_cons zero x es = refl
-  take_cons (suc n) x es = ap (λ (r : List X). x ∷ r) (take-take n (suc n) es (omega arith))
+  take_cons n x es = grind (arith, common_steps)
 
   room_kept : (h : Held X) (x : X) → room (put_onto h x) ≡ room h
   unfolding put_onto
@@ -41,10 +40,7 @@ module _ {X : Type 0} where
       omega arith
 
 behind_below : (place n : ℕ) → slot_behind place n ≤ n - 1
-behind_below place n =
-    ⊎_elim (λ (a : place + 1 < n). rw (lt-ltb (place + 1) n a) (omega arith))
-    (λ (b : n ≤ place + 1). rw (le-ltb (place + 1) n b) (omega arith))
-    (cases_lt (place + 1) n)
+behind_below place n = grind (arith, nat_tests)
 
 module _ {X : Type 0} where
   -- the entries stand in the slots, and u of them are in use

@@ -8,11 +8,14 @@ mod put;
 mod tell;
 
 /// The newest entries that were put. The slot before `next` has the newest, and `used` slots, going backward and round, hold entries.
+// The slots are lent, since nothing is allocated; an `impl Model` would hide them, and the clauses say what they hold and whose they are.
 #[derive(Drop)]
 pub struct Trail<'a, T: Copy> {
     slots: &'a mut [T],
     next: usize,
     used: usize,
     count: u32,
-    ghost ok: { (next ≤ length slots.now - 1) × (used ≤ length slots.now) × (count ≤ most_puts) },
+    ghost next_within: { next ≤ length slots.now - 1 },
+    ghost used_within: { used ≤ length slots.now },
+    ghost counted: { count ≤ most_puts },
 }

@@ -1,6 +1,6 @@
 //! Making a trail, and putting onto it.
-ghost use Rattle.std.specs.Prelude.{◌≡◌, ◌+◌, ◌<◌, ◌≤◌, min};
-ghost use Rattle.trails.specs.Held.{none_put, put_onto, slot_behind, HoldsNewest};
+ghost use Rattle.std.specs.Prelude.{◌≡◌};
+ghost use Rattle.trails.specs.Held.{none_put, put_onto, HoldsNewest};
 ghost use Rattle.trails.specs.Meaning.{held};
 
 use crate::Trail;
@@ -8,6 +8,7 @@ use crate::Trail;
 /// How many puts are counted at most.
 const MOST_PUTS: u32 = 4_000_000_000;
 
+#[tactic(auto, unfolding(crate::specs::Meaning::held, crate::specs::Held::none_put, crate::specs::Held::put_onto))]
 impl<'a, T: Copy> Trail<'a, T> {
     /// A trail over `slots`, of which nothing was put yet.
     pub fn new(slots: &'a mut [T]) -> Self
@@ -35,24 +36,9 @@ impl<'a, T: Copy> Trail<'a, T> {
         if self.next >= n {
             return;
         }
+        // By index, since after a write through `get_mut` it is not known what the slots hold.
         self.slots[self.next] = x;
-        self.next = next_slot(self.next, n);
-        self.used = one_more(self.used, n);
+        self.next = (self.next + 1) % n;
+        self.used = self.used.saturating_add(1).min(n);
     }
-}
-
-// The slot behind `next` of `n` slots, the first behind the last.
-fn next_slot(next: usize, n: usize) -> usize
-    requires { next < n }
-    ensures { result ≡ slot_behind next n }
-{
-    if next + 1 < n { next + 1 } else { 0 }
-}
-
-// One more than `used`, and not more than `n`.
-fn one_more(used: usize, n: usize) -> usize
-    requires { used ≤ n }
-    ensures { result ≡ min n (used + 1) }
-{
-    if used < n { used + 1 } else { n }
 }

@@ -1,10 +1,11 @@
 //! What a trail tells.
-ghost use Rattle.std.specs.Prelude.{◌≡◌, ◌+◌, ◌-◌, ◌<◌, ◌≤◌, ◌⊎◌};
+ghost use Rattle.std.specs.Prelude.{◌≡◌, ◌+◌, ◌<◌, ◌≤◌, ◌⊎◌, length};
 ghost use Rattle.trails.specs.Held.{aged};
 ghost use Rattle.trails.specs.Meaning.{held};
 
 use crate::Trail;
 
+#[tactic(auto, unfolding(crate::specs::Meaning::held))]
 impl<T: Copy> Trail<'_, T> {
     /// How many were put; it stays at 4,000,000,000.
     pub fn count(&self) -> u32
@@ -20,21 +21,19 @@ impl<T: Copy> Trail<'_, T> {
         if age >= self.used {
             return None;
         }
-        let slots = &*self.slots;
-        let i = slot(slots.len(), self.next, age);
-        Some(slots[i])
+        Some(self.slots[self.slot(age)])
     }
-}
 
-// Where the entry of an age stands in a ring of `n` slots.
-fn slot(n: usize, next: usize, age: usize) -> usize
-    requires { (age < n) × (next ≤ n - 1) }
-    ensures below { result < n }
-    ensures cases { ((age < next) × (result + 1 + age ≡ next)) ⊎ ((next ≤ age) × (result + 1 + age ≡ n + next)) }
-{
-    if age < next {
-        next - 1 - age
-    } else {
-        n - 1 - (age - next)
+    // Where the entry of an age stands. By cases, since the sum in `(n + next - 1 - age) % n` may not fit.
+    fn slot(&self, age: usize) -> usize
+        requires { age < self.now.used }
+        ensures below { result < length self.now.slots.now }
+        ensures cases { ((age < self.now.next) × (result + 1 + age ≡ self.now.next)) ⊎ ((self.now.next ≤ age) × (result + 1 + age ≡ length self.now.slots.now + self.now.next)) }
+    {
+        if age < self.next {
+            self.next - 1 - age
+        } else {
+            self.slots.len() - 1 - (age - self.next)
+        }
     }
 }

@@ -1,8 +1,7 @@
 -- A junction of stations over a hold board, by its promise: what it answers follows from its history.
 use Rattle.std.proofs.Common.{◌≡◌, ℕ, suc, ◌*◌, ◌<◌, ◌≤◌, Bool, true, ◌≢◌, List, refl, ap, ◌∙◌, arith}
 use Rattle.std.proofs.lemmas.Bool.{lt-ltb, le-leb, eq-eqb}
-use Rattle.boards.specs.Hold.{hold, new_hold, hold_lawful}
-use Rattle.boards.specs.declared.hold.Hold.{Hold}
+use Rattle.boards.specs.Hold.{Hold, hold, new_hold, hold_lawful}
 use Rattle.steps.specs.Table.{Table}
 use Rattle.steps.specs.Rows.{new_record}
 use Rattle.runs.specs.Laws.{LinesApart, OneHolder}
@@ -34,9 +33,6 @@ module _ (t : Table) (n name p : ℕ) (lt : p < n) where
 
   pub begun_own : begun.own p ≡ stands (t.starts n new_record) new_own
   begun_own = rw (lt-ltb p n lt, eq-eqb p p refl) refl
-
-  pub begun_others : (q : ℕ) → q ≢ p → begun.own q ≡ new_own
-  begun_others q ne = others t n name made (start p) q ne
 
   pub begun_used : begun.used ≡ 1
   begun_used = rw (lt-ltb p n lt) refl

@@ -4,8 +4,7 @@ use Rattle.std.proofs.lemmas.Bool.{lt-ltb}
 use Rattle.std.proofs.lemmas.Bool.Decides.{nat_tests}
 use Rattle.boards.proofs.InTurn.{in_turn}
 use Rattle.boards.specs.Tape.{noise_bit}
-use Rattle.boards.specs.Hold.{hold}
-use Rattle.boards.specs.declared.hold.Hold.{Hold}
+use Rattle.boards.specs.Hold.{Hold, hold}
 use Rattle.disciplines.specs.declared.plain.Plain.{Plain}
 use Rattle.disciplines.specs.declared.four_line.FourLine.{FourLine}
 use Rattle.steps.specs.declared.plain.PlainPlace.TheVariants as at_plain

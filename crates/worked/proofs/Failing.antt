@@ -2,8 +2,7 @@
 use Rattle.std.proofs.Common.{◌≡◌, ℕ, suc, ◌<◌, ◌≤◌, true, not, ◌&&◌, eqb, ltb, List, ◌∷◌, Ok, Err, sym, refl, ap, ◌∙◌, subst, arith}
 use Rattle.std.proofs.lemmas.Bool.{lt-ltb, le-leb, eq-eqb, ltb-true, cond_both}
 use Rattle.std.proofs.lemmas.Bool.Decides.{nat_tests}
-use Rattle.boards.specs.Hold.{hold}
-use Rattle.boards.specs.declared.hold.Hold.{Hold}
+use Rattle.boards.specs.Hold.{Hold, hold}
 use Rattle.steps.specs.declared.answers.Outcome.TheVariants.{Accepted}
 use Rattle.steps.specs.declared.answers.Refusal.{Refusal}
 use Rattle.steps.specs.declared.answers.Refusal.TheVariants.{NotCurrent, StillCurrent}
@@ -96,9 +95,6 @@ module _ (t : Table) (early : t.grant ≤ 37) (n name : ℕ) (s : State) (c : Ti
 
     s1_rec : ((s1.own p).rec.place ≡ 37) × ((s1.own p).arrivals ≡ (s.own p).arrivals)
     s1_rec = let x = eq-eqb p p refl in let y = g.2 in (grind (arith, nat_tests), grind (arith, nat_tests))
-
-    s1_used : s1.used ≡ s.used
-    s1_used = refl
 
     failing : reply t n name s1 (fail p) ≡ done (runs.stands failed (s1.own p))
     failing = fail_reply t n name s1 p g.0 under s1_rec.0

@@ -3,10 +3,9 @@ use Rattle.std.proofs.Common.{◌≡◌, ℕ, ◌-◌, ◌*◌, ◌<◌, ◌≤�
 use Rattle.std.proofs.lemmas.Bool.{lt-ltb}
 use Rattle.std.proofs.lemmas.Bool.Decides.{nat_tests}
 use Rattle.boards.specs.Lines.{settled}
-use Rattle.boards.specs.Hold.{hold}
+use Rattle.boards.specs.Hold.{Hold, hold}
 use Rattle.steps.specs.declared.lines.Part.TheVariants.{Door}
 use Rattle.disciplines.specs.declared.four_line.FourLine.{FourLine}
-use Rattle.boards.specs.declared.hold.Hold.{Hold}
 use Rattle.junction.specs.declared.state.Junction.{Junction}
 use Rattle.steps.specs.declared.answers.Outcome.TheVariants.{Accepted}
 use Rattle.steps.specs.declared.answers.Refusal.TheVariants.{NotIdle, WrongPick, NothingToSettle}

@@ -1,7 +1,6 @@
 -- Two stations of the four-line discipline: 0 has raised its turn when 1 starts.
 use Rattle.std.specs.Prelude.{◌≡◌, ℕ, ◌<◌, ◌≤◌, ◌≢◌, List, [], ◌∷◌, ◌++◌, Ok, ◌==◌}
-use Rattle.boards.specs.Hold.{hold}
-use Rattle.boards.specs.declared.hold.Hold.{Hold}
+use Rattle.boards.specs.Hold.{Hold, hold}
 use Rattle.disciplines.specs.declared.four_line.FourLine.{FourLine}
 use Rattle.steps.specs.declared.answers.Outcome.TheVariants.{Accepted, Waits}
 use Rattle.sets.specs.Sets.{has}

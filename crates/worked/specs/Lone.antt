@@ -1,7 +1,6 @@
 -- A station that is started and then goes, while no other station does anything.
 use Rattle.std.specs.Prelude.{◌≡◌, ℕ, ◌<◌, ◌≤◌, ◌≢◌, ◌⊎◌, List, [], ◌∷◌, length, Ok, Err}
-use Rattle.boards.specs.Hold.{hold}
-use Rattle.boards.specs.declared.hold.Hold.{Hold}
+use Rattle.boards.specs.Hold.{Hold, hold}
 use Rattle.steps.specs.declared.answers.Outcome.TheVariants.{Accepted}
 use Rattle.steps.specs.declared.answers.Refusal.TheVariants.{WrongPick}
 use Rattle.steps.specs.Rows.{merge_place}

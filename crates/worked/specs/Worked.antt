@@ -3,9 +3,8 @@ use Rattle.std.specs.Prelude.{◌≡◌, ℕ, suc, ◌+◌, ◌-◌, ◌*◌, �
 use Rattle.std.specs.Borrow.{Bor}
 use Rattle.boards.specs.Lines.{loose}
 use Rattle.boards.specs.Runs as boards
-use Rattle.boards.specs.Hold.{hold, new_hold}
+use Rattle.boards.specs.Hold.{Hold, hold, new_hold}
 use Rattle.boards.specs.Tape.{tape, new_tape}
-use Rattle.boards.specs.declared.hold.Hold.{Hold}
 use Rattle.disciplines.specs.declared.four_line.FourLine.{FourLine}
 use Rattle.disciplines.specs.declared.plain.Plain.{Plain}
 use Rattle.steps.specs.declared.answers.Outcome.TheVariants.{Accepted}

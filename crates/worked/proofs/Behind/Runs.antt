@@ -1,9 +1,8 @@
 -- Of two stations, 0 has raised its turn when 1 starts: 1 waits behind 0.
 use Rattle.std.proofs.Common.{◌≡◌, ℕ, zero, suc, ◌<◌, ◌≤◌, true, false, ltb, List, [], ◌∷◌, ◌++◌, sym, refl, ap, ◌∙◌, subst, inl, inr, arith}
 use Rattle.std.proofs.lemmas.Bool.{cases_Bool, ltb-true}
-use Rattle.boards.specs.Hold.{hold, hold_lawful}
+use Rattle.boards.specs.Hold.{Hold, hold, hold_lawful}
 use Rattle.steps.specs.declared.lines.Part.TheVariants.{Turn}
-use Rattle.boards.specs.declared.hold.Hold.{Hold}
 use Rattle.disciplines.specs.declared.four_line.FourLine.{FourLine}
 use Rattle.steps.specs.declared.record.Record.{Record}
 use Rattle.steps.specs.Rows.{new_record, flag}

@@ -1,9 +1,8 @@
 -- On the hold board a go hears the turn of station 0 as it was last settled, though it be stirred.
 use Rattle.std.proofs.Common.{◌≡◌, ℕ, ◌≤◌, Bool, true, false, cond, eqb, ltb, ◌≢◌, Some, None, Option, sym, refl, ap, ◌∙◌, subst, inl, inr, arith, get_or-set_other, get_or-set_same}
 use Rattle.std.proofs.lemmas.Bool.{lt-ltb, cond_both, cases_eq}
-use Rattle.boards.specs.Hold.{hold, hold_lawful}
+use Rattle.boards.specs.Hold.{Hold, hold, hold_lawful}
 use Rattle.boards.specs.Cells.{cell_at, low_cell}
-use Rattle.boards.specs.declared.hold.Hold.{Hold}
 use Rattle.steps.specs.declared.record.Record.{Record}
 use Rattle.steps.specs.declared.lines.Part.{Part}
 use Rattle.steps.specs.declared.lines.Part.TheVariants.{Door, Claim, Turn}
@@ -18,7 +17,7 @@ use Rattle.steps.specs.FourLine.{four_line, view, odd, turn}
 use Rattle.runs.specs.Runs.{limit, settles_some, stirs}
 use Rattle.junction.specs.declared.state.Junction.{Junction}
 use Rattle.junction.specs.Wires.{on_line, hears, heard, settled_on, loosened_on, loosened_if}
-use Rattle.junction.specs.Calls.{place, unless, allowed_leaves, with_board, acted, look_of, go_of, next_go, start_leaves, go_leaves, stir_leaves}
+use Rattle.junction.specs.Calls.{place, unless, refused_first, allowed_leaves, with_board, acted, look_of, go_of, next_go, start_leaves, go_leaves, stir_leaves}
 use Rattle.runs.proofs.LinesApart.{number_of, four_lines}
 use Rattle.junction.proofs.Both.{unless_both}
 
@@ -31,7 +30,7 @@ module _ (Q : ℕ → Hold → Type 0) (j : Junction FourLine Hold) (p : ℕ) (q
   Of i = Q i.size.stations i.board
 
   allowed : (i : Junction FourLine Hold) → Of i → Of (allowed_leaves four_line hold j p i)
-  allowed i h = unless_both Of (ltb p n) (ltb j.counts.used limit) i j h q
+  allowed i h = unless_both Of (refused_first j p) i j h q
 
   pub by_start : Of (start_leaves four_line hold j p)
   by_start = allowed _ (cond_both (eqb (place j p) idle_place) _ _ Of (λ _. q) (λ _. q))

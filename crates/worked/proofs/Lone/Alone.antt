@@ -2,8 +2,7 @@
 use Rattle.std.proofs.Common.{◌≡◌, ℕ, suc, ◌+◌, ◌<◌, ◌≤◌, Bool, true, ◌≢◌, ◌⊎◌, List, [], ◌∷◌, length, Ok, sym, refl, ap, ◌∙◌, subst, inl, inr, arith}
 use Rattle.std.proofs.lemmas.Bool.{lt-ltb, eq-eqb}
 use Rattle.std.proofs.lemmas.Bool.Decides.{nat_tests}
-use Rattle.boards.specs.Hold.{hold}
-use Rattle.boards.specs.declared.hold.Hold.{Hold}
+use Rattle.boards.specs.Hold.{Hold, hold}
 use Rattle.steps.specs.declared.answers.Outcome.TheVariants.{Accepted}
 use Rattle.steps.specs.declared.answers.Refusal.TheVariants.{WrongPick}
 use Rattle.steps.specs.Rows.{idle_place, merge_place}

@@ -1,11 +1,5 @@
-use Rattle.std.proofs.Common.{rules}
-use Rattle.boards.proofs.Fresh.{hold_fresh}
 use Rattle.boards.proofs.Last.{answers_last}
 use Rattle.boards.proofs.hold.Hold.new.Goals as goal
 
-pub returns : goal.returns
-returns c = record {
-  value = search rules;
-  fresh = rw c.new.ensures (hold_fresh c.args.lines);
-  last = rw c.new.ensures (answers_last c.args.lines);
-}
+pub returns-clause-last : goal.returns-clause-last
+returns-clause-last c = rw c.over.ensures.value (answers_last _)

@@ -1,0 +1,13 @@
+//! A step that is asked for.
+use crate::record::Record;
+use crate::size::Size;
+
+/// A go that is asked for: of which station of how many, with its record and its pick.
+#[derive(Clone, Copy, PartialEq, Eq, Debug)]
+pub struct Step {
+    pub size: Size,
+    pub station: usize,
+    pub rec: Record,
+    /// The member of its set that the station is to deal with next.
+    pub pick: usize,
+}
