@@ -22,7 +22,8 @@ use Rattle.junction.specs.declared.state.Junction.{Junction}
 use Rattle.junction.specs.Stations.{blank, at_record, arrived, pass_taken}
 use Rattle.junction.specs.Counts.{more_if}
 use Rattle.junction.specs.Wires.{hears, heard, settled_on}
-use Rattle.junction.specs.Calls.{station, place, with_board, counting, stepped, note, look_of, go_of, acted, next_go}
+use Rattle.junction.specs.Counts.{by_start, by_go, by_fail}
+use Rattle.junction.specs.Calls.{station, place, with_board, counting, stepped, look_of, go_of, acted, next_go}
 use Rattle.junction.specs.Promise.{Call, ticket, call_leaves, event, kept_of}
 use Rattle.junction.proofs.ByCall.{bit, Alike, by_call}
 use Rattle.junction.proofs.Touch.{Touched, retouch, in_room, touch_settle, touch_stir, touch_read}
@@ -219,15 +220,15 @@ module _ {D B : Type 0} (t : Table) (m : Meaning B) (law : Lawful m) (apart : Li
       (let now = ap (λ (z : Station). z.arrivals) same in grind arith))
 
   act_step : (p k : ℕ) (a : Bool) (b : B) (g : Go) → p < n → s.used < limit → T b p (λ x. line x (s.own p)) → R (go p k a) (acted t m (with_board j b) p g) (of_go g (s.own p))
-  act_step p k a b Idle lt ul board = counts (go p k a) idle b (note true false false true) lt refl refl refl ul refl board
-  act_step p k a b Waits lt ul board = counts (go p k a) waits b (note true false false true) lt refl refl refl ul refl board
+  act_step p k a b Idle lt ul board = counts (go p k a) idle b (by_go false) lt refl refl refl ul refl board
+  act_step p k a b Waits lt ul board = counts (go p k a) waits b (by_go false) lt refl refl refl ul refl board
   act_step p k a b WrongPick lt ul board = stays t m law apart n (with_board j b) s (go p k a) ref.WrongPick (reboard b p board)
   act_step p k a b MustLeave lt ul board = stays t m law apart n (with_board j b) s (go p k a) ref.MustLeave (reboard b p board)
   act_step p k a b (Moves x) lt ul board =
-      arrives p k a b b x (goes_to x (s.own p)) (note true (eqb x.place t.grant) false true) lt ul refl refl
+      arrives p k a b b x (goes_to x (s.own p)) (by_go (eqb x.place t.grant)) lt ul refl refl
       (retouch t m law apart n j.board b p _ _ (λ y. goes_line y x (s.own p)) board)
   act_step p k a b (Settles y v x) lt ul board =
-      arrives p k a b (settled_on t m n b (flag p y) v) x (line_to y (settled v) (goes_to x (s.own p))) (note true (eqb x.place t.grant) false true) lt ul refl refl
+      arrives p k a b (settled_on t m n b (flag p y) v) x (line_to y (settled v) (goes_to x (s.own p))) (by_go (eqb x.place t.grant)) lt ul refl refl
       (retouch t m law apart n j.board _ p _ _
       (λ z. ap (λ q. cond (same_part y z) (settled v) q) (goes_line z x (s.own p)) ∙ lines_at z (λ q. cond (same_part y q) (settled v) (line q (goes_to x (s.own p)))) (goes_to x (s.own p)))
       (touch_settle t m law apart n j.board b p (λ x. line x (s.own p)) y v h.room board))
@@ -260,9 +261,9 @@ module _ {D B : Type 0} (t : Table) (m : Meaning B) (law : Lawful m) (apart : Li
   pub call_step : (c : Call) → R (event t m j c) (call_leaves t m j c) (reply t n j.name s (event t m j c))
   call_step = by_call t m j s alike (λ e j' a r. R e j' r) (record {
     refusing = λ e x. stays t m law apart n j s e x h;
-    starting = λ p lt ul. renewed (start p) _ _ (note true false false false) lt ul refl refl (ap (λ (b : Station). at_record (t.starts n b.rec) b) (h.stations p lt)) refl (λ x. stands_line x (t.starts n (s.own p).rec) (s.own p));
-    failing = λ p lt ul. renewed (fail p) _ _ (note true false (runs.holds t (place j p)) false) lt ul refl refl (ap (λ (b : Station). at_record failed b) (h.stations p lt)) refl (λ x. stands_line x failed (s.own p));
-    stirring = λ p lt ul. counts (stir p) (done (runs.stirred t n p (s.own p))) _ (note true false false false) lt refl refl refl ul refl
+    starting = λ p lt ul. renewed (start p) _ _ by_start lt ul refl refl (ap (λ (b : Station). at_record (t.starts n b.rec) b) (h.stations p lt)) refl (λ x. stands_line x (t.starts n (s.own p).rec) (s.own p));
+    failing = λ p lt ul. renewed (fail p) _ _ (by_fail (runs.holds t (place j p))) lt ul refl refl (ap (λ (b : Station). at_record failed b) (h.stations p lt)) refl (λ x. stands_line x failed (s.own p));
+    stirring = λ p lt ul. counts (stir p) (done (runs.stirred t n p (s.own p))) _ by_start lt refl refl refl ul refl
         (retouch t m law apart n j.board _ p _ _
         (λ x. ap (λ (b : Station). cond (runs.stirs b.rec.place (runs.next_go t n p b.rec) x) loose (line x (s.own p))) (h.stations p lt)
         ∙ lines_at x (λ y. cond (runs.stirs (s.own p).rec.place (runs.next_go t n p (s.own p).rec) y) loose (line y (s.own p))) (s.own p))

@@ -16,7 +16,8 @@ use Rattle.junction.specs.declared.pass.Pass.{Pass}
 use Rattle.junction.specs.declared.state.Junction.{Junction}
 use Rattle.junction.specs.Stations.{at_record, pass_taken}
 use Rattle.junction.specs.Wires.{hears, heard, stirred_board}
-use Rattle.junction.specs.Calls.{station, place, with_board, counting, putting, stepped, note, answered, acted, allowed_answer, allowed_leaves, look_of, go_of, next_go}
+use Rattle.junction.specs.Counts.{by_start, by_fail, by_leave}
+use Rattle.junction.specs.Calls.{station, place, with_board, counting, putting, stepped, answered, acted, allowed_answer, allowed_leaves, look_of, go_of, next_go}
 use Rattle.junction.specs.Promise.{Call, to_start, to_stir, to_fail, to_take, to_go, to_leave, to_void, ticket, taking, handing, call_leaves, call_answers, event, kept_of}
 use Rattle.junction.proofs.Both.{all_by, allowing}
 
@@ -37,12 +38,12 @@ module _ {D B : Type 0} (t : Table) (m : Meaning B) (j : Junction D B) (s : Stat
   -- the ways in which a call may go: what it leaves, answers and is replied
   pub record Ways (P : Event → Junction D B → Result Outcome Refusal → Reply → Type 0) : Type 0 where
     pub refusing : (e : Event) (x : Refusal) → P e j (Err x) (refused x)
-    pub starting : (p : ℕ) → p < n → s.used < limit → P (start p) (stepped j p (at_record (t.starts n (station j p).rec) (station j p)) (note true false false false)) (Ok Accepted) (done (stands (t.starts n (s.own p).rec) (s.own p)))
-    pub failing : (p : ℕ) → p < n → s.used < limit → P (fail p) (stepped j p (at_record failed (station j p)) (note true false (holds t (place j p)) false)) (Ok Accepted) (done (stands failed (s.own p)))
-    pub stirring : (p : ℕ) → p < n → s.used < limit → P (stir p) (counting (with_board j (stirred_board t m n p (place j p) (next_go t m j p) j.board)) p (note true false false false)) (Ok Accepted) (done (runs.stirred t n p (s.own p)))
+    pub starting : (p : ℕ) → p < n → s.used < limit → P (start p) (stepped j p (at_record (t.starts n (station j p).rec) (station j p)) by_start) (Ok Accepted) (done (stands (t.starts n (s.own p).rec) (s.own p)))
+    pub failing : (p : ℕ) → p < n → s.used < limit → P (fail p) (stepped j p (at_record failed (station j p)) (by_fail (holds t (place j p)))) (Ok Accepted) (done (stands failed (s.own p)))
+    pub stirring : (p : ℕ) → p < n → s.used < limit → P (stir p) (counting (with_board j (stirred_board t m n p (place j p) (next_go t m j p) j.board)) p by_start) (Ok Accepted) (done (runs.stirred t n p (s.own p)))
     pub going : (p k : ℕ) (g : Go) → p < n → s.used < limit → P (go p k (bit p k)) (acted t m (with_board j (heard t m n j.board (look_of t m j p k))) p g) (answered g) (of_go g (s.own p))
     pub passing : (p : ℕ) → p < n → P (take p) (putting j p (pass_taken (station j p))) (Ok Accepted) (done (runs.takes (s.own p)))
-    pub leaving : (c : Pass) → c.station < n → P (leave (ticket c)) (stepped j c.station (at_record (to_number release_place (station j c.station).rec) (station j c.station)) (note false false (holds t (place j c.station)) true)) (Ok Accepted) (done (stands (to_number release_place (s.own c.station).rec) (s.own c.station)))
+    pub leaving : (c : Pass) → c.station < n → P (leave (ticket c)) (stepped j c.station (at_record (to_number release_place (station j c.station).rec) (station j c.station)) (by_leave (holds t (place j c.station)))) (Ok Accepted) (done (stands (to_number release_place (s.own c.station).rec) (s.own c.station)))
     pub voiding : (c : Pass) → c.station < n → P (void (ticket c)) j (Ok Accepted) (done (s.own c.station))
 
   module _ (h : Alike) (P : Event → Junction D B → Result Outcome Refusal → Reply → Type 0) (w : Ways P) where

@@ -19,7 +19,8 @@ use Rattle.junction.specs.declared.counts.Counts.{Counts}
 use Rattle.junction.specs.declared.counts.Note.{Note}
 use Rattle.junction.specs.declared.state.Junction.{Junction}
 use Rattle.junction.specs.Counts.{most, more_if, noted, seen_with, round_over}
-use Rattle.junction.specs.Calls.{place, with_board, note, acted}
+use Rattle.junction.specs.Counts.{by_start, by_go, by_fail, by_leave}
+use Rattle.junction.specs.Calls.{place, with_board, acted}
 use Rattle.junction.specs.Promise.{Call, ticket, call_leaves, event}
 use Rattle.junction.proofs.ByCall.{Alike, by_call, bit}
 
@@ -118,22 +119,22 @@ module _ {D B : Type 0} (t : Table) (m : Meaning B) (j : Junction D B) (s : Stat
   held p lt = ap (λ (x : Station). holds t x.rec.place) (h.stations p lt)
 
   act_tally : (p k : ℕ) (a : Bool) (b : B) (g : Go) → p < n → Tally t n s (go p k a) (of_go g (s.own p)) (acted t m (with_board j b) p g).counts
-  act_tally p k a b Idle lt = by_note (go p k a) (note true false false true) idle lt refl refl refl
-  act_tally p k a b Waits lt = by_note (go p k a) (note true false false true) waits lt refl refl refl
+  act_tally p k a b Idle lt = by_note (go p k a) (by_go false) idle lt refl refl refl
+  act_tally p k a b Waits lt = by_note (go p k a) (by_go false) waits lt refl refl refl
   act_tally p k a b WrongPick lt = tally_none t n s j.counts (go p k a) told ref.WrongPick
   act_tally p k a b MustLeave lt = tally_none t n s j.counts (go p k a) told ref.MustLeave
-  act_tally p k a b (Moves x) lt = by_note (go p k a) (note true (eqb x.place t.grant) false true) (done (goes_to x (s.own p))) lt refl refl refl
-  act_tally p k a b (Settles y v x) lt = by_note (go p k a) (note true (eqb x.place t.grant) false true) (done (line_to y (settled v) (goes_to x (s.own p)))) lt refl refl refl
+  act_tally p k a b (Moves x) lt = by_note (go p k a) (by_go (eqb x.place t.grant)) (done (goes_to x (s.own p))) lt refl refl refl
+  act_tally p k a b (Settles y v x) lt = by_note (go p k a) (by_go (eqb x.place t.grant)) (done (line_to y (settled v) (goes_to x (s.own p)))) lt refl refl refl
 
   pub call_tally : (c : Call) → Tally t n s (event t m j c) (reply t n j.name s (event t m j c)) (call_leaves t m j c).counts
   call_tally = by_call t m j s h (λ e j' a r. Tally t n s e r j'.counts) (record {
     refusing = λ e x. tally_none t n s j.counts e told x;
-    starting = λ p lt ul. by_note (start p) (note true false false false) (done (stands (t.starts n (s.own p).rec) (s.own p))) lt refl refl refl;
-    failing = λ p lt ul. by_note (fail p) (note true false (holds t (place j p)) false) (done (stands failed (s.own p))) lt refl (held p lt) refl;
-    stirring = λ p lt ul. by_note (stir p) (note true false false false) (done (runs.stirred t n p (s.own p))) lt refl refl refl;
+    starting = λ p lt ul. by_note (start p) by_start (done (stands (t.starts n (s.own p).rec) (s.own p))) lt refl refl refl;
+    failing = λ p lt ul. by_note (fail p) (by_fail (holds t (place j p))) (done (stands failed (s.own p))) lt refl (held p lt) refl;
+    stirring = λ p lt ul. by_note (stir p) by_start (done (runs.stirred t n p (s.own p))) lt refl refl refl;
     going = λ p k g lt ul. act_tally p k (bit t m j s p k) _ g lt;
     passing = λ p lt. quiet t n s j.counts (take p) told (done (runs.takes (s.own p))) refl refl refl;
-    leaving = λ c lt. by_note (leave (ticket c)) (note false false (holds t (place j c.station)) true) (done (stands (to_number release_place (s.own c.station).rec) (s.own c.station))) lt refl (held c.station lt) refl;
+    leaving = λ c lt. by_note (leave (ticket c)) (by_leave (holds t (place j c.station))) (done (stands (to_number release_place (s.own c.station).rec) (s.own c.station))) lt refl (held c.station lt) refl;
     voiding = λ c lt. quiet t n s j.counts (void (ticket c)) told (done (s.own c.station)) refl refl refl;
   })
 

@@ -20,12 +20,8 @@ use Rattle.junction.specs.declared.counts.Note.{Note}
 use Rattle.junction.specs.declared.pass.Pass.{Pass}
 use Rattle.junction.specs.declared.state.Junction.{Junction}
 use Rattle.junction.specs.Stations.{station_of, with_station, at_record, arrived, pass_taken, is_since}
-use Rattle.junction.specs.Counts.{noted}
+use Rattle.junction.specs.Counts.{noted, by_start, by_go, by_fail, by_leave}
 use Rattle.junction.specs.Wires.{hears, heard, settled_on, stirred_board}
-
--- What an accepted call counts as: limited, granted, ended, shown.
-abbrev pub note : Bool → Bool → Bool → Bool → Note
-note a b c d = record { limited = a; granted = b; ended = c; shown = d }
 
 module _ {D B : Type 0} where
   abbrev pub with_board : Junction D B → B → Junction D B
@@ -91,7 +87,7 @@ module _ {D B : Type 0} (t : Table) (m : Meaning B) where
 
   abbrev pub start_leaves : Junction D B → ℕ → Junction D B
   start_leaves j p =
-      allowed_leaves j p (cond (place j p == idle_place) (stepped j p (at_record (t.starts j.size.stations (station j p).rec) (station j p)) (note true false false false)) j)
+      allowed_leaves j p (cond (place j p == idle_place) (stepped j p (at_record (t.starts j.size.stations (station j p).rec) (station j p)) by_start) j)
 
   -- The line that a go looks at, and what it does after what it hears.
   abbrev pub look_of : Junction D B → ℕ → ℕ → Option Flag
@@ -101,11 +97,11 @@ module _ {D B : Type 0} (t : Table) (m : Meaning B) where
   go_of j p k = t.goes j.size.stations p (station j p).rec k (hears t m j.size.stations j.board (look_of j p k))
 
   abbrev pub moved_to : Junction D B → ℕ → Record → Junction D B
-  moved_to j p s = stepped j p (arrived s (station j p)) (note true (s.place == t.grant) false true)
+  moved_to j p s = stepped j p (arrived s (station j p)) (by_go (s.place == t.grant))
 
   abbrev pub acted : Junction D B → ℕ → Go → Junction D B
-  acted j p Idle = counting j p (note true false false true)
-  acted j p Waits = counting j p (note true false false true)
+  acted j p Idle = counting j p (by_go false)
+  acted j p Waits = counting j p (by_go false)
   acted j p WrongPick = j
   acted j p MustLeave = j
   acted j p (Moves s) = moved_to j p s
@@ -126,14 +122,14 @@ module _ {D B : Type 0} (t : Table) (m : Meaning B) where
   abbrev pub stir_leaves : Junction D B → ℕ → Junction D B
   stir_leaves j p =
       allowed_leaves j p
-      (cond (settles_some (next_go j p)) (counting (with_board j (stirred_board t m j.size.stations p (place j p) (next_go j p) j.board)) p (note true false false false)) j)
+      (cond (settles_some (next_go j p)) (counting (with_board j (stirred_board t m j.size.stations p (place j p) (next_go j p) j.board)) p by_start) j)
 
   abbrev pub fail_answers : Junction D B → ℕ → Result Outcome Refusal
   fail_answers j p = allowed_answer j p (cond (place j p == failed_place) (Err ref.HasFailed) (Ok out.Accepted))
 
   abbrev pub fail_leaves : Junction D B → ℕ → Junction D B
   fail_leaves j p =
-      allowed_leaves j p (cond (place j p == failed_place) j (stepped j p (at_record failed (station j p)) (note true false (holds t (place j p)) false)))
+      allowed_leaves j p (cond (place j p == failed_place) j (stepped j p (at_record failed (station j p)) (by_fail (holds t (place j p)))))
 
   abbrev pub may_take : Junction D B → ℕ → Bool
   may_take j p = place j p == merge_place && not (station j p).taken
@@ -157,7 +153,7 @@ module _ {D B : Type 0} (t : Table) (m : Meaning B) where
   abbrev pub leave_leaves : Junction D B → Pass → Junction D B
   leave_leaves j c =
       cond (nat_lt c.station j.size.stations)
-      (cond (c.name == j.name && current j c) (stepped j c.station (at_record (to_number release_place (station j c.station).rec) (station j c.station)) (note false false (holds t (place j c.station)) true)) j)
+      (cond (c.name == j.name && current j c) (stepped j c.station (at_record (to_number release_place (station j c.station).rec) (station j c.station)) (by_leave (holds t (place j c.station)))) j)
       j
 
   abbrev pub void_answers : Junction D B → Pass → Result Outcome (Pass × Refusal)

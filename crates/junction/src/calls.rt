@@ -2,7 +2,8 @@
 ghost use Rattle.std.specs.Prelude.{◌≡◌, ℕ, Bool, true, false, ◌==◌};
 ghost use Rattle.runs.specs.Runs.{holds};
 ghost use Rattle.junction.specs.Stations.{station_of, arrived};
-ghost use Rattle.junction.specs.Calls.{SlotOf, unknown, refused_first, asked, counting, stepped, note, answered, acted, start_answers, start_leaves, go_answers, go_leaves, stir_answers, stir_leaves, fail_answers, fail_leaves};
+ghost use Rattle.junction.specs.Calls.{SlotOf, unknown, refused_first, asked, counting, stepped, answered, acted, start_answers, start_leaves, go_answers, go_leaves, stir_answers, stir_leaves, fail_answers, fail_leaves};
+ghost use Rattle.junction.specs.Counts.{by_go};
 
 use crate::counts::Note;
 use crate::state::Junction;
@@ -76,11 +77,7 @@ impl<D: Discipline, B: Board> Junction<D, B> {
             return Err(Refusal::NotIdle);
         }
         let rec = D::start(self.size, station.rec);
-        let note = Note {
-            limited: true,
-            ..Note::default()
-        };
-        self.step(slot, Station { rec, ..station }, note);
+        self.step(slot, Station { rec, ..station }, Note::by_start());
         Ok(Outcome::Accepted)
     }
 
@@ -126,28 +123,17 @@ impl<D: Discipline, B: Board> Junction<D, B> {
 
     // A go that changes nothing is counted, and the station is seen.
     fn stay(&mut self, p: usize)
-        ensures { self.new ≡ counting self.old p (note true false false true) }
+        ensures { self.new ≡ counting self.old p (by_go false) }
     {
-        let note = Note {
-            limited: true,
-            shown: true,
-            ..Note::default()
-        };
-        self.count(p, note);
+        self.count(p, Note::by_go(false));
     }
 
     // A go takes a station to this record.
     fn arrive(&mut self, slot: Slot, rec: Record)
-        ensures { self.new ≡ stepped self.old slot.station (arrived rec (station_of self.old.stations slot.station)) (note true (rec.place == D.table.grant) false true) }
+        ensures { self.new ≡ stepped self.old slot.station (arrived rec (station_of self.old.stations slot.station)) (by_go (rec.place == D.table.grant)) }
     {
         let next = self.stations.get(slot).arrive(rec);
-        let note = Note {
-            limited: true,
-            granted: rec.place == D::grant(),
-            shown: true,
-            ..Note::default()
-        };
-        self.step(slot, next, note);
+        self.step(slot, next, Note::by_go(rec.place == D::grant()));
     }
 
     /// Loosens the line that the station's next go would settle; all its lines where it has failed.
@@ -162,11 +148,7 @@ impl<D: Discipline, B: Board> Junction<D, B> {
             return Err(Refusal::NothingToSettle);
         }
         self.stir_lines(step, go);
-        let note = Note {
-            limited: true,
-            ..Note::default()
-        };
-        self.count(p, note);
+        self.count(p, Note::by_start());
         Ok(Outcome::Accepted)
     }
 
@@ -180,11 +162,7 @@ impl<D: Discipline, B: Board> Junction<D, B> {
         if station.rec.place == FAILED {
             return Err(Refusal::HasFailed);
         }
-        let note = Note {
-            limited: true,
-            ended: Self::holds(station.rec.place),
-            ..Note::default()
-        };
+        let note = Note::by_fail(Self::holds(station.rec.place));
         let rec = Record::failed();
         self.step(slot, Station { rec, ..station }, note);
         Ok(Outcome::Accepted)

@@ -1,6 +1,6 @@
 //! What a junction counts.
 ghost use Rattle.std.specs.Prelude.{◌≡◌, ℕ, Bool};
-ghost use Rattle.junction.specs.Counts.{seen_with, noted, new_counts};
+ghost use Rattle.junction.specs.Counts.{by_start, by_go, by_fail, by_leave, seen_with, noted, new_counts};
 
 use sets::Set;
 use steps::Size;
@@ -33,6 +33,49 @@ pub struct Note {
     pub(crate) ended: bool,
     /// The station is seen by it.
     pub(crate) shown: bool,
+}
+
+impl Note {
+    // By a start or a stir.
+    pub(crate) fn by_start() -> Self
+        ensures { result ≡ by_start }
+    {
+        Note {
+            limited: true,
+            ..Note::default()
+        }
+    }
+
+    pub(crate) fn by_go(granted: bool) -> Self
+        ensures { result ≡ by_go granted }
+    {
+        Note {
+            limited: true,
+            granted,
+            shown: true,
+            ..Note::default()
+        }
+    }
+
+    pub(crate) fn by_fail(ended: bool) -> Self
+        ensures { result ≡ by_fail ended }
+    {
+        Note {
+            limited: true,
+            ended,
+            ..Note::default()
+        }
+    }
+
+    pub(crate) fn by_leave(ended: bool) -> Self
+        ensures { result ≡ by_leave ended }
+    {
+        Note {
+            ended,
+            shown: true,
+            ..Note::default()
+        }
+    }
 }
 
 impl Counts {

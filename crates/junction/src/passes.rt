@@ -48,11 +48,7 @@ impl<D: Discipline, B: Board> Junction<D, B> {
             return Err((pass, Refusal::NotCurrent));
         }
         pass.end();
-        let note = Note {
-            ended: Self::holds(station.rec.place),
-            shown: true,
-            ..Note::default()
-        };
+        let note = Note::by_leave(Self::holds(station.rec.place));
         let rec = station.rec.to(RELEASE);
         self.step(slot, Station { rec, ..station }, note);
         Ok(Outcome::Accepted)
