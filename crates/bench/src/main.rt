@@ -1,6 +1,8 @@
 //! Plays the schedule on standard input and prints its report.
 #![tactic(auto)]
 
+ghost use Rattle.std.specs.Prelude.{◌≤◌, length, IfOk};
+
 use play::{GrantEntry, REPORT_BYTES, RefusalEntry, write_report};
 use schedule::Event;
 use std::io;
@@ -13,12 +15,27 @@ const INPUT_BYTES: usize = 60_001;
 /// How many grants, and how many refusals, are kept.
 const KEPT: usize = 64;
 
+// Reads until the buffer is full or the input ends, and tells how many bytes came. Each read asks for all that there is room for, as
+// an input that keeps messages apart (a packet socket) throws away the rest of one that is asked for in pieces; so no `io::copy`.
+fn fill<R: Read>(from: &mut R, buf: &mut [u8]) -> io::Result<usize>
+    ensures { IfOk result (λ n. n ≤ length buf.old) }
+{
+    let all = buf.len();
+    let mut room = buf;
+    while !room.is_empty() {
+        let n = from.read(room)?;
+        if n == 0 {
+            break;
+        }
+        room = &mut room[n..];
+    }
+    Ok(all - room.len())
+}
+
 fn main(rt: HostRuntime) -> io::Result<()> {
     // An array and no `Vec`, which would stand on the C library's heap too.
     let mut input = [0u8; INPUT_BYTES];
-    let mut room = &mut input[..];
-    io::copy(&mut rt.stdin().take(INPUT_BYTES as u64), &mut room)?;
-    let length = INPUT_BYTES.saturating_sub(room.len());
+    let length = fill(&mut rt.stdin(), &mut input)?;
     let mut granted = [GrantEntry::default(); KEPT];
     // Written out: an event has no derived default, as each of its cases holds a station.
     let mut refused = [RefusalEntry {
