@@ -1,6 +1,6 @@
 //! The hold board.
 ghost use Rattle.std.specs.Prelude.{◌≡◌, min, refl};
-ghost use Rattle.boards.specs.Lines.{Fresh};
+ghost use Rattle.boards.specs.Lines.{Fresh, Lawful};
 ghost use Rattle.boards.specs.Cells.{most_lines};
 ghost use Rattle.boards.specs.Hold.{hold, new_hold, AnswersLast};
 
@@ -33,6 +33,7 @@ impl Hold {
         ensures value { result ≡ new_hold lines }
         ensures fresh { Fresh hold (min lines most_lines) result }
         ensures last { AnswersLast result }
+        ensures lawful { Lawful hold }
     {
         CellBoard::over(lines, Last)
     }

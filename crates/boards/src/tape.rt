@@ -1,6 +1,6 @@
 //! The tape board.
 ghost use Rattle.std.specs.Prelude.{◌≡◌, min, slice_index};
-ghost use Rattle.boards.specs.Lines.{Fresh};
+ghost use Rattle.boards.specs.Lines.{Fresh, Lawful};
 ghost use Rattle.boards.specs.Cells.{most_lines};
 ghost use Rattle.boards.specs.Tape.{tape, new_tape, next_bit, noise_answers, noise_onward, noise_settled, byte_behind, after_bit, AnswersInTurn};
 
@@ -66,6 +66,7 @@ impl<'a> Tape<'a> {
         ensures value { result ≡ new_tape lines noise.entry }
         ensures fresh { Fresh tape (min lines most_lines) result }
         ensures bits { AnswersInTurn noise.now result }
+        ensures lawful { Lawful tape }
     {
         let start = Noise {
             bytes: noise,

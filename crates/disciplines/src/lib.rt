@@ -12,5 +12,5 @@ pub use plain::Plain;
 // What callers of a discipline name too.
 pub use steps::{
     Contest, FAILED, Flag, FourPlace, Go, IDLE, MERGING, Numbered, Outcome, Part, Place,
-    PlainPlace, RELEASE, Record, Refusal, Size, Step,
+    PlainPlace, RELEASE, Record, Refusal, Size, Step, answer_number,
 };

@@ -10,7 +10,7 @@ use boards::{Board, Tape};
 use compete::{STATIONS, compete, recover};
 use disciplines::{Discipline, FourLine};
 use junction::Junction;
-use passes::{Ended, take_and_fail};
+use passes::{take_and_fail, take_and_leave};
 use std::io;
 use tell::{tell, tell_holder, tell_place, tell_totals};
 
@@ -41,7 +41,7 @@ fn hold_and_leave<D: Discipline, B: Board>(
     if let Some(p) = compete(rt, j, among, BUDGET)? {
         tell_holder(rt, j)?;
         tell(rt, "go", p, j.go(p, 0))?;
-        tell(rt, "pass", p, j.take_and_leave(p).map(|_| Ended::Left))?;
+        tell(rt, "pass", p, take_and_leave(j, p))?;
         tell(rt, "go", p, j.go(p, 0))?;
     }
     tell_holder(rt, j)

@@ -31,6 +31,17 @@ impl fmt::Display for Ended {
     }
 }
 
+// A station on the merge takes its pass and leaves with it.
+pub(crate) fn take_and_leave<D: Discipline, B: Board>(
+    j: &mut Junction<D, B>,
+    p: usize,
+) -> Result<Ended, Refusal>
+    ensures answers { result ≡ ended_after D.table B.meaning (take_leaves D.table B.meaning j.old p) (take_answers D.table B.meaning j.old p) }
+    ensures leaves { j.new ≡ left_leaves D.table B.meaning (take_leaves D.table B.meaning j.old p) (take_answers D.table B.meaning j.old p) }
+{
+    j.take_and_leave(p).map(|_| Ended::Left)
+}
+
 // A station on the merge takes its pass and fails with it in hand, so that the pass comes too late for a leave. It is
 // voided: a pass of this junction's own is current or not, so one of the two takes it.
 pub(crate) fn take_and_fail<D: Discipline, B: Board>(

@@ -1,6 +1,6 @@
 -- The calls divided once: what a junction leaves and answers, beside what its history is replied. Whatever is to be shown of
 -- the three is shown of a refusal, of each accepted call, and of what a go may do.
-use Rattle.std.proofs.Common.{◌≡◌, ℕ, ◌<◌, Bool, true, false, not, ◌&&◌, eqb, ltb, Ok, Err, Result, sym, refl, ap, subst, ltb-true}
+use Rattle.std.proofs.Common.{◌≡◌, ℕ, ◌<◌, Bool, true, not, ◌&&◌, eqb, ltb, Ok, Err, Result, sym, refl, ap, subst, ltb-true}
 use Rattle.boards.specs.Lines.{Meaning}
 use Rattle.steps.specs.declared.go.Go.{Go}
 use Rattle.steps.specs.declared.answers.Outcome.{Outcome}

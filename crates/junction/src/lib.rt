@@ -12,7 +12,7 @@ mod telling;
 mod wires;
 
 pub use counts::Totals;
-pub use making::Unfit;
+pub use making::{Unfit, check_number};
 pub use numbers::Numbered;
 pub use pass::Pass;
 pub use state::Junction;

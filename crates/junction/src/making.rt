@@ -1,6 +1,6 @@
 //! Making a junction.
 ghost use Rattle.std.specs.Prelude.{◌≡◌, ℕ, ◌*◌, ◌≤◌, List, Some, IfOk};
-ghost use Rattle.junction.specs.Making.{unfit_number, unfit_text, check_answers, room_for, new_junction};
+ghost use Rattle.junction.specs.Making.{unfit_number, check_number, unfit_text, check_answers, room_for, new_junction};
 ghost use Rattle.junction.specs.Promise.{Call, SafeMerge, ServedInOrder};
 
 use crate::counts::Counts;
@@ -29,6 +29,13 @@ impl Numbered for Unfit {
     fn number(self) -> u8 {
         self as u8
     }
+}
+
+/// The number of what `Junction::check` answers: 0 where there can be a junction.
+pub fn check_number(answer: Result<(), Unfit>) -> u8
+    ensures { result ≡ check_number answer }
+{
+    answer.number()
 }
 
 impl fmt::Display for Unfit {

@@ -1,6 +1,6 @@
 //! What a call on a junction is answered.
-ghost use Rattle.std.specs.Prelude.{Some};
-ghost use Rattle.steps.specs.Answers.{outcome_number, refusal_number, outcome_text, refusal_text};
+ghost use Rattle.std.specs.Prelude.{◌≡◌, Some};
+ghost use Rattle.steps.specs.Answers.{outcome_number, refusal_number, answer_number, outcome_text, refusal_text};
 
 use numbers::Numbered;
 use std::error::Error;
@@ -46,7 +46,7 @@ impl Numbered for Outcome {
     ghost numbered = { outcome_number };
 
     fn number(self) -> u8 {
-        self as u8
+        self as u8 // 0, 50 or 51
     }
 }
 
@@ -54,8 +54,15 @@ impl Numbered for Refusal {
     ghost numbered = { refusal_number };
 
     fn number(self) -> u8 {
-        self as u8
+        self as u8 // 3 to 12
     }
+}
+
+/// The number of an answer.
+pub fn answer_number(answer: Result<Outcome, Refusal>) -> u8
+    ensures { result ≡ answer_number answer }
+{
+    answer.number()
 }
 
 impl fmt::Display for Outcome {

@@ -13,7 +13,7 @@ mod record;
 mod size;
 mod step;
 
-pub use answers::{Outcome, Refusal};
+pub use answers::{Outcome, Refusal, answer_number};
 pub use contest::Contest;
 pub use four_line::FourPlace;
 pub use go::Go;
