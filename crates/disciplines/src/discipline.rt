@@ -54,6 +54,7 @@ pub trait Discipline {
     }
 
     /// The line that a go reads.
+    #[inline(always)]
     fn look(step: Step) -> Option<Flag>
         ensures { result ≡ table.looks step.size.stations step.station step.rec step.pick }
     {
@@ -61,6 +62,7 @@ pub trait Discipline {
     }
 
     /// What that go does after this reading.
+    #[inline(always)]
     fn go(step: Step, high: bool) -> Go
         ensures { result ≡ table.goes step.size.stations step.station step.rec step.pick high }
     {

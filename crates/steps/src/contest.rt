@@ -56,6 +56,7 @@ impl Contest {
     }
 
     /// The line that a go reads.
+    #[inline(always)]
     pub fn look(self, step: Step) -> Option<Flag>
         ensures { result ≡ looks self step.rec step.pick }
     {
@@ -74,6 +75,7 @@ impl Contest {
     }
 
     /// What a go does; `won` is the place of a station that has won the contest, as the number that a record keeps.
+    #[inline(always)]
     pub fn go(self, won: u8, step: Step, high: bool) -> Go
         ensures { result ≡ goes self won step.size.stations step.station step.rec step.pick high }
     {

@@ -119,6 +119,7 @@ impl Place for FourPlace {
         }
     }
 
+    #[inline(always)]
     fn look(self, step: Step) -> Option<Flag> {
         let Step { rec: s, pick, .. } = step;
         match self {
@@ -134,6 +135,7 @@ impl Place for FourPlace {
     }
 
     // A match over places, each row with its guards, as the rules have it; so rows that differ in a place stand side by side.
+    #[inline(always)]
     fn go(self, step: Step, high: bool) -> Go {
         let Step {
             size,

@@ -53,6 +53,7 @@ impl Place for PlainPlace {
         }
     }
 
+    #[inline(always)]
     fn look(self, step: Step) -> Option<Flag> {
         match self {
             PlainPlace::Contest(contest) => contest.look(step),
@@ -60,6 +61,7 @@ impl Place for PlainPlace {
         }
     }
 
+    #[inline(always)]
     fn go(self, step: Step, high: bool) -> Go {
         match self {
             PlainPlace::Idle => Go::Idle,
