@@ -1,7 +1,9 @@
 -- What was played of the events, with what the rest of them will do, comes to what all of them do.
-use Rattle.std.proofs.Common.{◌≡◌, ℕ, suc, ◌+◌, ◌*◌, ◌≤◌, List, [], ◌∷◌, ◌++◌, length, take, drop, refl, sym, ap, ◌∙◌, arith}
+use Rattle.std.proofs.Common.{◌≡◌, ℕ, suc, ◌+◌, ◌*◌, ◌≤◌, List, [], ◌∷◌, ◌++◌, length, take, drop, get_or, Some, refl, sym, ap, ◌∙◌, arith}
 use lib.Seq.{paste}
-use Rattle.std.proofs.lemmas.List.{take-append-drop}
+use Rattle.std.proofs.lemmas.List.{take-append-drop, drop-drop, get_or-drop}
+use Rattle.std.proofs.lemmas.Option.{slice_get_read}
+use Rattle.std.specs.List.{slice_get}
 use Rattle.std.specs.Option.{option_to_list}
 use Rattle.boards.specs.Lines.{Meaning}
 use Rattle.steps.specs.Table.{Table}
@@ -30,6 +32,7 @@ module _ {D B : Type 0} (t : Table) (m : Meaning B) (es : List Event) (j₀ : Ju
   -- The junction j and the account a, before the events `rest`, of which the first has index i.
   pub record Leads (rest : List Event) (i : ℕ) (j : Junction D B) (a : Account) : Type 0 where
     pub count : i + length rest ≡ length es
+    pub there : rest ≡ drop i es
     pub junction : end_of t m j rest ≡ end_of t m j₀ es
     pub text : take (12 * i) a.out.now ++ (lines_of t m j rest i ++ drop (12 * length es) a.out.now) ≡ lines_of t m j₀ es 0 ++ drop (12 * length es) a₀.out.now
     pub grants : all_put (held a.grants.now) (grants_of t m j rest i) ≡ all_put (held a₀.grants.now) (grants_of t m j₀ es 0)
@@ -39,6 +42,7 @@ module _ {D B : Type 0} (t : Table) (m : Meaning B) (es : List Event) (j₀ : Ju
   pub begins : Leads es 0 j₀ a₀
   begins = record {
     count = omega arith;
+    there = refl;
     junction = refl;
     text = refl;
     grants = refl;
@@ -58,12 +62,20 @@ module _ {D B : Type 0} {t : Table} {m : Meaning B} {es : List Event} {j₀ : Ju
       let c : i + suc (length rest) ≡ length es = l.count in
       record {
         count = omega arith;
+        there = ap (λ xs. drop 1 xs) l.there ∙ drop-drop 1 i es;
         junction = rw hk l.junction;
         text = rw (ho, hx, hk) (line_on a.out.now w.line (lines_of t m next rest (i + 1)) i (length es) (omega arith) r refl) ∙ l.text;
         grants = rw (hg, hk, hx) (all_put-append (held a.grants.now) (option_to_list w.grant) (grants_of t m next rest (i + 1))) ∙ l.grants;
         refusals = rw (hd, hk, hx) (all_put-append (held a.refusals.now) (option_to_list w.refusal) (refusals_of t m next rest (i + 1))) ∙ l.refusals;
         same = both l.same hs;
       }
+
+  -- the event that is played next is the one of that index
+  pub next_is : {e : Event} {rest : List Event} {i : ℕ} {j : Junction D B} {a : Account} → Leads t m es j₀ a₀ (e ∷ rest) i j a → slice_get es i ≡ Some e
+  next_is {e} {rest} {i} l =
+      let c : i + suc (length rest) ≡ length es = l.count in
+      let g : e ≡ get_or (drop i es) 0 e = ap (λ xs. get_or xs 0 e) l.there in
+      slice_get_read es (length es) i e refl (omega arith) (g ∙ get_or-drop i es 0 e ∙ ap (λ n. get_or es n e) (omega arith))
 
   -- nothing is left
   pub text_at_end : {i : ℕ} {j : Junction D B} {a : Account} → Leads t m es j₀ a₀ [] i j a → a.out.now ≡ lines_of t m j₀ es 0 ++ drop (12 * length es) a₀.out.now

@@ -1,7 +1,7 @@
 -- What each operation on sets does to their members: laws without premises, one number at a time.
-use Rattle.std.proofs.Common.{◌≡◌, ℕ, zero, suc, ◌+◌, ◌-◌, ◌%◌, ◌^◌, ◌<◌, ◌≤◌, Bool, true, false, cond, not, ◌&&◌, ◌||◌, eqb, ltb, ap, ◌∙◌, ⊎_elim, arith, lt-ltb, le-ltb}
+use Rattle.std.proofs.Common.{◌≡◌, ℕ, zero, suc, ◌+◌, ◌-◌, ◌%◌, ◌^◌, ◌<◌, ◌≤◌, Bool, true, false, cond, not, ◌&&◌, ◌||◌, eqb, ltb, refl, ap, ◌∙◌, ⊎_elim, arith, lt-ltb, le-ltb}
 use Rattle.std.specs.Int.{bit_at}
-use lib.Bits.{bit_xor}
+use lib.Bits.{bit_xor, differ}
 use Rattle.std.proofs.lemmas.Bool.Decides.{nat_tests}
 use Rattle.std.proofs.lemmas.Bool.{cond_both, cases_lt, eqb-true}
 use Rattle.std.proofs.lemmas.Nat.Bits.{bit_at_xor, bit_at-pow_same, bit_at-pow_other, bit_at_ones, bit_at_ones_above, bit_at-zero, bit_at-lt}
@@ -13,10 +13,27 @@ pub has_small : (s : Set) (k : ℕ) → has s k ≡ true → k < 32
 unfolding has
 has_small s k e = grind (arith, nat_tests)
 
+-- The sum of two bits is odd where they differ.
+odd_sum : (x y : ℕ) → x < 2 → y < 2 → (x + y) % 2 ≡ differ x y
+odd_sum zero zero a b = refl
+odd_sum zero (suc zero) a b = refl
+odd_sum (suc zero) zero a b = refl
+odd_sum (suc zero) (suc zero) a b = refl
+odd_sum zero (suc (suc y)) a b = absurd (omega arith)
+odd_sum (suc zero) (suc (suc y)) a b = absurd (omega arith)
+odd_sum (suc (suc x)) y a b = absurd (omega arith)
+
+-- An exclusive or goes bit by bit.
+pub bit-xor : (a b k : ℕ) → bit_at (bit_xor a b) k ≡ differ (bit_at a k) (bit_at b k)
+bit-xor a b k = bit_at_xor a b k ∙ odd_sum (bit_at a k) (bit_at b k) (bit_at-lt a k) (bit_at-lt b k)
+
 -- A bit and a test, exclusively: turned over where the test holds.
-turned : (x : ℕ) (y : Bool) → x < 2 → eqb ((x + cond y 1 0) % 2) 1 ≡ cond y (not (eqb x 1)) (eqb x 1)
-turned x true h = grind (arith, nat_tests)
-turned x false h = grind (arith, nat_tests)
+turned : (x : ℕ) (y : Bool) → x < 2 → eqb (differ x (cond y 1 0)) 1 ≡ cond y (not (eqb x 1)) (eqb x 1)
+turned zero true h = refl
+turned zero false h = refl
+turned (suc zero) true h = refl
+turned (suc zero) false h = refl
+turned (suc (suc x)) y h = absurd (omega arith)
 
 -- A power of two has its one bit.
 bit_pow : (k q : ℕ) → bit_at (2 ^ k) q ≡ cond (eqb q k) 1 0
@@ -31,7 +48,7 @@ bit_ones n q =
 -- The bit of k turned over.
 has_turned : (n k q : ℕ) → has (of_bits (bit_xor n (2 ^ k))) q ≡ cond (ltb q 32) (cond (eqb q k) (not (eqb (bit_at n q) 1)) (eqb (bit_at n q) 1)) false
 unfolding has
-has_turned n k q = ap (λ x. cond (ltb q 32) x false) (ap (λ x. eqb x 1) (bit_at_xor n (2 ^ k) q) ∙ ap (λ x. eqb ((bit_at n q + x) % 2) 1) (bit_pow k q) ∙ turned (bit_at n q) (eqb q k) (bit_at-lt n q))
+has_turned n k q = ap (λ x. cond (ltb q 32) x false) (ap (λ x. eqb x 1) (bit-xor n (2 ^ k) q) ∙ ap (λ x. eqb (differ (bit_at n q) x) 1) (bit_pow k q) ∙ turned (bit_at n q) (eqb q k) (bit_at-lt n q))
 
 pub without_at : (k : ℕ) (s : Set) (q : ℕ) → has (without k s) q ≡ has s q && not (eqb q k)
 unfolding without has

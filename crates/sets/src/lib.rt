@@ -66,6 +66,7 @@ impl Set {
     }
 
     /// The set with k, where k is below 32.
+    #[tactic(auto, using(crate::proofs::Bitwise::taking_in))]
     pub fn insert(self, k: usize) -> Self
         ensures { result ≡ plus k self }
     {
@@ -79,6 +80,7 @@ impl Set {
     }
 
     /// The set without k.
+    #[tactic(auto, using(crate::proofs::Bitwise::taking_out))]
     pub fn remove(self, k: usize) -> Self
         ensures { result ≡ without k self }
     {
