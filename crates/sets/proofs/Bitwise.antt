@@ -1,5 +1,5 @@
 -- One bit set and one bit cleared, against the exclusive or that the definitions have.
-use Rattle.std.proofs.Common.{◌≡◌, ℕ, ◌-◌, ◌*◌, ◌^◌, ◌<◌, ◌≤◌, ◌%◌, cond, eqb, bit_xor, bit_or, bit_and, ap, ◌∙◌, rules, arith}
+use Rattle.std.proofs.Common.{◌≡◌, ℕ, ◌-◌, ◌*◌, ◌^◌, ◌<◌, ◌≤◌, ◌%◌, true, false, cond, eqb, bit_xor, bit_or, bit_and, ap, ◌∙◌, rules, arith}
 use Rattle.std.specs.Int.{bit_at}
 use Rattle.std.specs.Int.Bits.{or_add_and, xor_add_and}
 use Rattle.std.proofs.lemmas.Bool.{cond_both, eqb-true}
@@ -33,6 +33,23 @@ pub taken_out : (s : Set) (k : ℕ) → s.bits < 2 ^ 32 → k < 32 → of_bits (
 unfolding without has
 taken_out s k h l = let p : 2 ^ k < 2 ^ 32 = search rules in let o = off_pow s.bits k h p in search (rules, o)
 
+-- A member is in already, and a number that is none is out; of others the bit is turned over.
+pub stays_in : (s : Set) (k : ℕ) → has s k ≡ true → s ≡ plus k s
+unfolding plus
+stays_in s k e = search (rules, e)
+
+pub stays_out : (s : Set) (k : ℕ) → has s k ≡ false → s ≡ without k s
+unfolding without
+stays_out s k e = search (rules, e)
+
+pub turned_in : (s : Set) (k : ℕ) → has s k ≡ false → k < 32 → of_bits (bit_xor s.bits (1 * 2 ^ k % 4294967296)) ≡ plus k s
+unfolding plus
+turned_in s k e l = search (rules, e)
+
+pub turned_out : (s : Set) (k : ℕ) → has s k ≡ true → k < 32 → of_bits (bit_xor s.bits (1 * 2 ^ k % 4294967296)) ≡ without k s
+unfolding without
+turned_out s k e l = search (rules, e)
+
 -- A number from 32 on is no member, and is neither taken in nor out.
 pub not_in : (s : Set) (k : ℕ) → 32 ≤ k → s ≡ plus k s
 unfolding plus has
@@ -42,6 +59,6 @@ pub not_out : (s : Set) (k : ℕ) → 32 ≤ k → s ≡ without k s
 unfolding without has
 not_out s k l = search rules
 
-pub ruleset taking_in = (taken_in, not_in)
+pub ruleset taking_in = (taken_in, stays_in, turned_in, not_in)
 
-pub ruleset taking_out = (taken_out, not_out)
+pub ruleset taking_out = (taken_out, stays_out, turned_out, not_out)
